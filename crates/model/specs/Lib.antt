@@ -1,0 +1,8 @@
+-- What a reader must believe about policies and typings, and what is proved of it.
+pub mod Policy
+pub mod Typing
+pub mod Closure
+pub mod States
+pub mod Safety
+pub mod Sum
+pub mod Witness

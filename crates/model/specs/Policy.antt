@@ -1,0 +1,113 @@
+-- Policies, states, steps, runs and bad states, in the order of document 01, "The model".
+use Prim.Native.Nat.{ℕ, _<_}
+use mathlib.Core.Bool.{Bool, true, false}
+use mathlib.Core.List.{List, _++_, List·Memᴰ as Listed}
+use mathlib.Core.Path.{_≡_}
+use lib.ListN.{length, getD, set}
+use Rattle.roles.specs.declared.RoleSet.{RoleSet}
+use Rattle.roles.specs.Sets.{emptySet, withOf, withoutOf}
+use Rattle.roles.specs.Members.{_∈_, Share, Within}
+use Rattle.model.specs.declared.Assign.{Assign}
+use Rattle.model.specs.declared.Revoke.{Revoke}
+use Rattle.model.specs.declared.Person.{Person}
+
+-- A clearance or a label is L or H, as the code has it: false or true.
+abbrev pub Label : Type 0
+Label = Bool
+
+abbrev pub L : Label
+L = false
+
+abbrev pub H : Label
+H = true
+
+infix 40 _⊑_
+-- L is below H: a label is at most another when the other is H wherever it is.
+pub record _⊑_ (a b : Label) : Type 0 where
+  pub raised : a ≡ H → b ≡ H
+
+-- A policy's assign rules, revoke rules and goals. Users and initial holdings are a state.
+pub record Policy : Type 0 where
+  pub assigns : List Assign
+  pub revokes : List Revoke
+  pub goals : List RoleSet
+
+-- Two policies run together: the rules and goals of one followed by those of the other.
+unfoldable pub joint : Policy → Policy → Policy
+joint P Q = record {
+  assigns = P .assigns ++ Q .assigns;
+  revokes = P .revokes ++ Q .revokes;
+  goals = P .goals ++ Q .goals;
+}
+
+-- The users in their order, each with clearance and roles. A user is a place in the list.
+abbrev pub State : Type 0
+State = List Person
+
+-- What stands for a place past the end: nobody, who holds nothing.
+unfoldable pub nobody : Person
+nobody = record { clearance = L; roles = emptySet }
+
+unfoldable pub person : State → ℕ → Person
+person σ user = getD σ user nobody
+
+-- The user is one of the listed.
+pub record Present (σ : State) (user : ℕ) : Type 0 where
+  pub listed : user < length σ
+
+-- The user holds the role; holds all of the set; holds none of the set.
+pub record Holds (σ : State) (user role : ℕ) : Type 0 where
+  pub held : role ∈ person σ user .roles
+
+pub record HoldsAll (σ : State) (user : ℕ) (roles : RoleSet) : Type 0 where
+  pub all : Within roles (person σ user .roles)
+
+pub record HoldsNone (σ : State) (user : ℕ) (roles : RoleSet) : Type 0 where
+  pub none : Share roles (person σ user .roles) → ⊥
+
+-- An actor who holds the administrative role may give the target role to a user who holds all of the positive set, none of
+-- the negative set, and doesn't yet hold the target role. Actor and user may be the same person.
+pub record CanAssign (σ : State) (actor : ℕ) (rule : Assign) (user : ℕ) : Type 0 where
+  pub actor-present : Present σ actor
+  pub actor-holds : Holds σ actor (rule .admin)
+  pub user-present : Present σ user
+  pub all : HoldsAll σ user (rule .positive)
+  pub none : HoldsNone σ user (rule .negative)
+  pub fresh : Holds σ user (rule .target) → ⊥
+
+-- An actor who holds the administrative role may take the target role from a user who holds it.
+pub record CanRevoke (σ : State) (actor : ℕ) (rule : Revoke) (user : ℕ) : Type 0 where
+  pub actor-present : Present σ actor
+  pub actor-holds : Holds σ actor (rule .admin)
+  pub user-present : Present σ user
+  pub user-holds : Holds σ user (rule .target)
+
+-- The state in which the user's roles are others, and all else is as it was.
+unfoldable pub holding : State → ℕ → RoleSet → State
+holding σ user roles = set σ user (record { clearance = person σ user .clearance; roles = roles })
+
+-- The user holds one role more; one role less.
+unfoldable pub granted : State → ℕ → ℕ → State
+granted σ user role = holding σ user (withOf (person σ user .roles) role)
+
+unfoldable pub revoked : State → ℕ → ℕ → State
+revoked σ user role = holding σ user (withoutOf (person σ user .roles) role)
+
+-- One step of a policy: an assign rule or a revoke rule of it is used.
+pub data Step (P : Policy) (σ : State) : State → Type 0 where
+  assign : {rule : Assign} {actor user : ℕ} → Listed rule (P .assigns) → CanAssign σ actor rule user → Step P σ (granted σ user (rule .target))
+  revoke : {rule : Revoke} {actor user : ℕ} → Listed rule (P .revokes) → CanRevoke σ actor rule user → Step P σ (revoked σ user (rule .target))
+
+-- A run is any finite sequence of steps, the empty one included.
+pub data Run (P : Policy) (σ : State) : State → Type 0 where
+  stay : Run P σ σ
+  next : {τ υ : State} → Run P σ τ → Step P τ υ → Run P σ υ
+
+-- A state is bad when some L user holds all roles of some goal.
+pub record Bad (goals : List RoleSet) (σ : State) : Type 0 where
+  pub user : ℕ
+  pub present : Present σ user
+  pub low : person σ user .clearance ≡ L
+  pub goal : RoleSet
+  pub listed : Listed goal goals
+  pub holds : HoldsAll σ user goal

@@ -1,0 +1,17 @@
+use borrow.Author.Needs.{needs}
+use Rattle.roles.specs.Sets.{withoutOf, lessOf}
+use Rattle.roles.proofs.RoleSet.without.Statement.{statement}
+use Rattle.roles.proofs.RoleSet.without.Tie as tie
+
+single-requires : tie.Need-single-requires
+single-requires c κs = search needs
+
+meet-requires : tie.Need-meet-requires
+meet-requires c κs = search needs
+
+returns : tie.Need-returns
+unfolding withoutOf lessOf
+returns c = cc
+
+pub without-spec : {M : Type 1} → statement M
+without-spec = tie.close (tie.spec single-requires meet-requires returns)

@@ -1,0 +1,341 @@
+-- Membership of a role in a set, and the law of each operation over membership.
+use Prim.Native.Nat.{ℕ, zero, suc, _+_, _-_, _*_, _/_, _%_, _^_, _≤_, _<_}
+use mathlib.Core.Bool.{Bool, true, false, not, _&&_, _||_, false≢true, or-true}
+use mathlib.Core.Logic.{_⊎_, inl, inr}
+use mathlib.Core.Path.{_≡_, refl, sym, ap, ap₂, _∙_, subst, subst⁻¹}
+use borrow.Author.Tests.{ltb-true, ltb-false, lt-ltb, le-ltb, eqb-true, eq-eqb, ne-eqb}
+use lib.Bits.{bitAnd, bitOr, bitXor, and-self, or-self, or-comm, and-le-l}
+use lib.Dec.{ltb, eqb}
+use lib.Pow.{pow-pos}
+use native.Mathlib.Decide.{decLt}
+use native.Mathlib.Nat.{lt-of-le-of-lt, add-sub-cancel-left}
+use native.Mathlib.Omega.{arith}
+use Rattle.roles.specs.declared.RoleSet.{RoleSet}
+use Rattle.roles.specs.Sets.{pick, bit, hasRole, emptySet, singleOf, unionOf, meetOf, withOf, lessOf, withoutOf, sameSet, sharesRole, includes, sizeOf}
+use Rattle.roles.specs.Words.{differs, bit-or, bit-and, bit-xor, bit-own, bit-other, bit-zero, same-bits, or-assoc, search-below, tally, tally-join, tally-same, ones-tally}
+
+infix 40 _∈_
+-- the role is in the set
+pub record _∈_ (role : ℕ) (s : RoleSet) : Type 0 where
+  pub found : hasRole s role ≡ true
+
+-- the two sets have a role in common
+pub record Share (s t : RoleSet) : Type 0 where
+  pub role : ℕ
+  pub first : role ∈ s
+  pub second : role ∈ t
+
+-- every role of the first is in the second
+pub record Within (s t : RoleSet) : Type 0 where
+  pub every : {role : ℕ} → role ∈ s → role ∈ t
+
+-- both words are words of 64 bits, as those of every set that a program holds
+pub record Sized (s : RoleSet) : Type 0 where
+  pub low : s .low < 2 ^ 64
+  pub high : s .high < 2 ^ 64
+
+-- ---- what a test of membership says
+
+pub decide : (role : ℕ) (s : RoleSet) → Dec (role ∈ s)
+decide role s = go (hasRole s role) refl
+  where
+    go : (b : Bool) → hasRole s role ≡ b → Dec (role ∈ s)
+    go true e = yes (record { found = e })
+    go false e = no (λ h. false≢true (sym e ∙ h .found))
+
+pub absent-test : {role : ℕ} {s : RoleSet} → (role ∈ s → ⊥) → hasRole s role ≡ false
+absent-test {role} {s} h = go (hasRole s role) refl
+  where
+    go : (b : Bool) → hasRole s role ≡ b → hasRole s role ≡ false
+    go true e = absurd (h (record { found = e }))
+    go false e = e
+
+-- ---- where a role stands: in the low word, in the high word, or nowhere
+
+data Place : ℕ → Type 0 where
+  low : (k : ℕ) → k < 64 → Place k
+  high : (k : ℕ) → k < 64 → Place (64 + k)
+  nowhere : (k : ℕ) → 128 ≤ k → Place k
+
+place : (role : ℕ) → Place role
+place role = go (decLt role 64) (decLt role 128)
+  where
+    go : Dec (role < 64) → Dec (role < 128) → Place role
+    go (yes h) d = low role h
+    go (no g) (no h) = nowhere role (omega arith)
+    go (no g) (yes h) =
+        let same : 64 + (role - 64) ≡ role = omega arith in
+        subst Place same (high (role - 64) (omega arith))
+
+has-low : (s : RoleSet) (k : ℕ) → k < 64 → hasRole s k ≡ bit (s .low) k
+unfolding hasRole
+has-low s k h = rw (lt-ltb k 64 h)
+
+has-high : (s : RoleSet) (k : ℕ) → k < 64 → hasRole s (64 + k) ≡ bit (s .high) k
+unfolding hasRole
+has-high s k h = rw (le-ltb (64 + k) 64 (omega arith), lt-ltb (64 + k) 128 (omega arith), add-sub-cancel-left 64 k)
+
+has-nowhere : (s : RoleSet) (k : ℕ) → 128 ≤ k → hasRole s k ≡ false
+unfolding hasRole
+has-nowhere s k h = rw (le-ltb k 64 (omega arith), le-ltb k 128 h)
+
+-- there is no role above 127
+pub below : {role : ℕ} {s : RoleSet} → role ∈ s → role < 128
+below {role} {s} h = go (decLt role 128)
+  where
+    go : Dec (role < 128) → role < 128
+    go (yes lt) = lt
+    go (no ng) = absurd (false≢true (sym (has-nowhere s role (omega arith)) ∙ h .found))
+
+-- ---- an operation that works bit by bit works role by role
+module _ (op : ℕ → ℕ → ℕ) (test : Bool → Bool → Bool) (bits : (a b k : ℕ) → bit (op a b) k ≡ test (bit a k) (bit b k)) (none : test false false ≡ false)
+    (s t u : RoleSet) (low-word : u .low ≡ op (s .low) (t .low)) (high-word : u .high ≡ op (s .high) (t .high)) where
+  by-roles : (role : ℕ) → hasRole u role ≡ test (hasRole s role) (hasRole t role)
+  by-roles role = go (place role)
+    where
+      go : {r : ℕ} → Place r → hasRole u r ≡ test (hasRole s r) (hasRole t r)
+      go (low k h) =
+          has-low u k h ∙ ap (λ (w : ℕ). bit w k) low-word ∙ bits (s .low) (t .low) k ∙ sym (ap₂ test (has-low s k h) (has-low t k h))
+      go (high k h) =
+          has-high u k h ∙ ap (λ (w : ℕ). bit w k) high-word ∙ bits (s .high) (t .high) k ∙ sym (ap₂ test (has-high s k h) (has-high t k h))
+      go (nowhere k h) = has-nowhere u k h ∙ sym none ∙ sym (ap₂ test (has-nowhere s k h) (has-nowhere t k h))
+
+pub has-union : (s t : RoleSet) (role : ℕ) → hasRole (unionOf s t) role ≡ (hasRole s role || hasRole t role)
+unfolding unionOf
+has-union s t = by-roles bitOr _||_ bit-or refl s t (unionOf s t) refl refl
+
+pub has-meet : (s t : RoleSet) (role : ℕ) → hasRole (meetOf s t) role ≡ (hasRole s role && hasRole t role)
+unfolding meetOf
+has-meet s t = by-roles bitAnd _&&_ bit-and refl s t (meetOf s t) refl refl
+
+has-less : (s t : RoleSet) (role : ℕ) → hasRole (lessOf s t) role ≡ differs (hasRole s role) (hasRole t role)
+unfolding lessOf
+has-less s t = by-roles bitXor differs bit-xor refl s t (lessOf s t) refl refl
+
+-- ---- the empty set, and a set of one
+
+-- a word of zeros holds no role
+zero-low : (s : RoleSet) → s .low ≡ 0 → (k : ℕ) → k < 64 → hasRole s k ≡ false
+zero-low s zeros k h = has-low s k h ∙ ap (λ (w : ℕ). bit w k) zeros ∙ bit-zero k
+
+zero-high : (s : RoleSet) → s .high ≡ 0 → (k : ℕ) → k < 64 → hasRole s (64 + k) ≡ false
+zero-high s zeros k h = has-high s k h ∙ ap (λ (w : ℕ). bit w k) zeros ∙ bit-zero k
+
+has-empty : (role : ℕ) → hasRole emptySet role ≡ false
+unfolding emptySet
+has-empty role = go (place role)
+  where
+    go : {r : ℕ} → Place r → hasRole emptySet r ≡ false
+    go (low k h) = zero-low emptySet refl k h
+    go (high k h) = zero-high emptySet refl k h
+    go (nowhere k h) = has-nowhere emptySet k h
+
+pub empty-none : {role : ℕ} → role ∈ emptySet → ⊥
+empty-none {role} h = false≢true (sym (has-empty role) ∙ h .found)
+
+single-low : (k : ℕ) → k < 64 → singleOf k ≡ record { low = 2 ^ k; high = 0 }
+unfolding singleOf
+single-low k h = rw (lt-ltb k 64 h)
+
+single-high : (k : ℕ) → k < 64 → singleOf (64 + k) ≡ record { low = 0; high = 2 ^ k }
+unfolding singleOf
+single-high k h = rw (le-ltb (64 + k) 64 (omega arith), lt-ltb (64 + k) 128 (omega arith), add-sub-cancel-left 64 k)
+
+single-nowhere : (k : ℕ) → 128 ≤ k → singleOf k ≡ emptySet
+unfolding singleOf
+single-nowhere k h = rw (le-ltb k 64 (omega arith), le-ltb k 128 h)
+
+pub single-own : {role : ℕ} → role < 128 → role ∈ singleOf role
+single-own {role} fits = go fits (place role)
+  where
+    go : {r : ℕ} → r < 128 → Place r → r ∈ singleOf r
+    go f (low k h) = record { found = rw (single-low k h) (has-low _ k h ∙ bit-own k) }
+    go f (high k h) = record { found = rw (single-high k h) (has-high _ k h ∙ bit-own k) }
+    go f (nowhere k h) = absurd (omega arith)
+
+-- the only role of a set of one
+pub single-only : {role other : ℕ} → other ∈ singleOf role → other ≡ role
+single-only {role} {other} h = go (place role) (place other) h
+  where
+    go : {r q : ℕ} → Place r → Place q → q ∈ singleOf r → q ≡ r
+    go (low j f) (low k g) m = sym (bit-other j k (sym (has-low _ k g) ∙ (rw (single-low j f) at (m .found))))
+    go (low j f) (high k g) m = absurd (false≢true (sym (zero-high _ refl k g) ∙ (rw (single-low j f) at (m .found))))
+    go (high j f) (low k g) m = absurd (false≢true (sym (zero-low _ refl k g) ∙ (rw (single-high j f) at (m .found))))
+    go (high j f) (high k g) m = ap (λ (x : ℕ). 64 + x) (sym (bit-other j k (sym (has-high _ k g) ∙ (rw (single-high j f) at (m .found)))))
+    go (low j f) (nowhere k g) m = absurd (omega (arith, below m))
+    go (high j f) (nowhere k g) m = absurd (omega (arith, below m))
+    go {q = q} (nowhere j f) p m = absurd (empty-none (subst (λ (s : RoleSet). q ∈ s) (single-nowhere j f) m))
+
+-- ---- union, meeting, with and without a role
+
+or-cases : (a b : Bool) → (a || b) ≡ true → (a ≡ true) ⊎ (b ≡ true)
+or-cases true b e = inl refl
+or-cases false b e = inr e
+
+pub union-cases : {role : ℕ} (s t : RoleSet) → role ∈ unionOf s t → (role ∈ s) ⊎ (role ∈ t)
+union-cases {role} s t h = go (or-cases (hasRole s role) (hasRole t role) (sym (has-union s t role) ∙ h .found))
+  where
+    go : (hasRole s role ≡ true) ⊎ (hasRole t role ≡ true) → (role ∈ s) ⊎ (role ∈ t)
+    go (inl e) = inl (record { found = e })
+    go (inr e) = inr (record { found = e })
+
+pub union-left : {role : ℕ} {s : RoleSet} (t : RoleSet) → role ∈ s → role ∈ unionOf s t
+union-left {role} {s} t h = record { found = has-union s t role ∙ ap (λ (b : Bool). b || hasRole t role) (h .found) }
+
+pub union-right : {role : ℕ} (s : RoleSet) {t : RoleSet} → role ∈ t → role ∈ unionOf s t
+union-right {role} s {t} h = record { found = has-union s t role ∙ ap (λ (b : Bool). hasRole s role || b) (h .found) ∙ or-true (hasRole s role) }
+
+both : (a b : Bool) → (a && b) ≡ true → (a ≡ true) × (b ≡ true)
+both true b e = (refl, e)
+both false b e = absurd (false≢true e)
+
+pub meet-left : {role : ℕ} (s t : RoleSet) → role ∈ meetOf s t → role ∈ s
+meet-left {role} s t h = record { found = both (hasRole s role) (hasRole t role) (sym (has-meet s t role) ∙ h .found) .0 }
+
+pub meet-right : {role : ℕ} (s t : RoleSet) → role ∈ meetOf s t → role ∈ t
+meet-right {role} s t h = record { found = both (hasRole s role) (hasRole t role) (sym (has-meet s t role) ∙ h .found) .1 }
+
+pub meet-both : {role : ℕ} {s t : RoleSet} → role ∈ s → role ∈ t → role ∈ meetOf s t
+meet-both {role} {s} {t} h g = record { found = has-meet s t role ∙ ap₂ _&&_ (h .found) (g .found) }
+
+pub with-cases : {role : ℕ} (s : RoleSet) (more : ℕ) → role ∈ withOf s more → (role ∈ s) ⊎ (role ≡ more)
+unfolding withOf
+with-cases {role} s more h = go (union-cases s (singleOf more) h)
+  where
+    go : (role ∈ s) ⊎ (role ∈ singleOf more) → (role ∈ s) ⊎ (role ≡ more)
+    go (inl old) = inl old
+    go (inr new) = inr (single-only new)
+
+pub with-old : {role : ℕ} {s : RoleSet} (more : ℕ) → role ∈ s → role ∈ withOf s more
+unfolding withOf
+with-old more h = union-left (singleOf more) h
+
+pub with-new : {more : ℕ} (s : RoleSet) → more < 128 → more ∈ withOf s more
+unfolding withOf
+with-new s h = union-right s (single-own h)
+
+-- of a set less the part of it that is in another, a role is in the first and not in the other
+has-without : (s t : RoleSet) (role : ℕ) → hasRole (lessOf s (meetOf s t)) role ≡ (hasRole s role && not (hasRole t role))
+has-without s t role = has-less s (meetOf s t) role ∙ ap (differs (hasRole s role)) (has-meet s t role) ∙ go (hasRole s role) (hasRole t role)
+  where
+    go : (a b : Bool) → differs a (a && b) ≡ (a && not b)
+    go true b = refl
+    go false b = refl
+
+pub without-old : {role : ℕ} (s : RoleSet) (less : ℕ) → role ∈ withoutOf s less → role ∈ s
+unfolding withoutOf
+without-old {role} s less h = record { found = both (hasRole s role) (not (hasRole (singleOf less) role)) (sym (has-without s (singleOf less) role) ∙ h .found) .0 }
+
+pub without-gone : (s : RoleSet) (less : ℕ) → less ∈ withoutOf s less → ⊥
+unfolding withoutOf
+without-gone s less h =
+    let own = single-own (below (without-old s less h)) in
+    false≢true (sym (ap not (own .found)) ∙ both (hasRole s less) (not (hasRole (singleOf less) less)) (sym (has-without s (singleOf less) less) ∙ h .found) .1)
+
+pub without-other : {role : ℕ} {s : RoleSet} (less : ℕ) → role ∈ s → (role ≡ less → ⊥) → role ∈ withoutOf s less
+unfolding withoutOf
+without-other {role} {s} less h other = record {
+  found = has-without s (singleOf less) role ∙ ap₂ (λ (a b : Bool). a && not b) (h .found) (absent-test (λ g. other (single-only g)));
+}
+
+-- ---- sets with the same members; inclusion and sharing, as the program tests them
+
+same-test : (s t : RoleSet) → Within s t → Within t s → (role : ℕ) → hasRole s role ≡ hasRole t role
+same-test s t st ts role = go (hasRole s role) refl
+  where
+    go : (b : Bool) → hasRole s role ≡ b → hasRole s role ≡ hasRole t role
+    go true e = e ∙ sym (st .every (record { found = e }) .found)
+    go false e = e ∙ sym (absent-test (λ h. false≢true (sym e ∙ ts .every h .found)))
+
+low-bit : (s t : RoleSet) → Within s t → Within t s → (k : ℕ) → k < 64 → bit (s .low) k ≡ bit (t .low) k
+low-bit s t st ts k h = sym (has-low s k h) ∙ same-test s t st ts k ∙ has-low t k h
+
+high-bit : (s t : RoleSet) → Within s t → Within t s → (k : ℕ) → k < 64 → bit (s .high) k ≡ bit (t .high) k
+high-bit s t st ts k h = sym (has-high s k h) ∙ same-test s t st ts (64 + k) ∙ has-high t k h
+
+-- two sets of words below 2 ^ 64 with the same members are equal
+pub same-members : {s t : RoleSet} → Sized s → Sized t → Within s t → Within t s → s ≡ t
+same-members {s} {t} sized sized′ st ts =
+    λ i. record {
+      low = same-bits 64 (s .low) (t .low) (sized .low) (sized′ .low) (low-bit s t st ts) i;
+      high = same-bits 64 (s .high) (t .high) (sized .high) (sized′ .high) (high-bit s t st ts) i;
+    }
+
+pub empty-sized : Sized emptySet
+unfolding emptySet
+empty-sized = record { low = pow-pos 64; high = pow-pos 64 }
+
+pub meet-sized : (s t : RoleSet) → Sized s → Sized (meetOf s t)
+unfolding meetOf
+meet-sized s t sized = record {
+  low = lt-of-le-of-lt (and-le-l (s .low) (t .low)) (sized .low);
+  high = lt-of-le-of-lt (and-le-l (s .high) (t .high)) (sized .high);
+}
+
+pub same-equal : (s t : RoleSet) → sameSet s t ≡ true → s ≡ t
+unfolding sameSet
+same-equal s t h =
+    let words = both (eqb (s .low) (t .low)) (eqb (s .high) (t .high)) h in
+    λ i. record { low = eqb-true (s .low) (t .low) (words .0) i; high = eqb-true (s .high) (t .high) (words .1) i }
+
+pub equal-same : (s : RoleSet) → sameSet s s ≡ true
+unfolding sameSet
+equal-same s = ap₂ _&&_ (eq-eqb (s .low) (s .low) refl) (eq-eqb (s .high) (s .high) refl)
+
+pub includes-within : (s t : RoleSet) → includes t s ≡ true → Within s t
+unfolding includes
+includes-within s t h = record { every = λ {role} g. meet-right s t (subst⁻¹ (λ (u : RoleSet). role ∈ u) (same-equal (meetOf s t) s h) g) }
+
+pub within-includes : {s t : RoleSet} → Sized s → Within s t → includes t s ≡ true
+unfolding includes
+within-includes {s} {t} sized h =
+    let whole = same-members (meet-sized s t sized) sized (record { every = meet-left s t }) (record { every = λ g. meet-both g (h .every g) }) in
+    ap (λ (u : RoleSet). sameSet u s) whole ∙ equal-same s
+
+pub shares-share : {s t : RoleSet} → Sized s → sharesRole s t ≡ true → Share s t
+unfolding sharesRole
+shares-share {s} {t} sized h = go (search-below 128 (hasRole (meetOf s t)))
+  where
+    go : ((k : ℕ) × (hasRole (meetOf s t) k ≡ true)) ⊎ ((k : ℕ) → k < 128 → hasRole (meetOf s t) k ≡ false) → Share s t
+    go (inl f) = record { role = f .0; first = meet-left s t (record { found = f .1 }); second = meet-right s t (record { found = f .1 }) }
+    go (inr none) = absurd (false≢true (sym (ap not nothing) ∙ h))
+      where
+        empty-meet : Within (meetOf s t) emptySet
+        empty-meet = record { every = λ {role} g. absurd (false≢true (sym (none role (below g)) ∙ g .found)) }
+
+        nothing : sameSet (meetOf s t) emptySet ≡ true
+        nothing = ap (λ (u : RoleSet). sameSet u emptySet) (same-members (meet-sized s t sized) empty-sized empty-meet (record { every = λ g. absurd (empty-none g) })) ∙ equal-same emptySet
+
+pub share-shares : (s t : RoleSet) → Share s t → sharesRole s t ≡ true
+unfolding sharesRole
+share-shares s t h = go (sameSet (meetOf s t) emptySet) refl
+  where
+    go : (b : Bool) → sameSet (meetOf s t) emptySet ≡ b → not (sameSet (meetOf s t) emptySet) ≡ true
+    go true e = absurd (empty-none (subst (λ (u : RoleSet). h .role ∈ u) (same-equal (meetOf s t) emptySet e) (meet-both (h .first) (h .second))))
+    go false e = ap not e
+
+pub share-none : (s t : RoleSet) → sharesRole s t ≡ false → Share s t → ⊥
+share-none s t e shared = false≢true (sym e ∙ share-shares s t shared)
+
+-- ---- union as an operation on sets
+
+pub union-comm : (s t : RoleSet) → unionOf s t ≡ unionOf t s
+unfolding unionOf
+union-comm s t = λ i. record { low = or-comm (s .low) (t .low) i; high = or-comm (s .high) (t .high) i }
+
+pub union-assoc : (s t u : RoleSet) → unionOf (unionOf s t) u ≡ unionOf s (unionOf t u)
+unfolding unionOf
+union-assoc s t u = λ i. record { low = or-assoc (s .low) (t .low) (u .low) i; high = or-assoc (s .high) (t .high) (u .high) i }
+
+pub union-self : (s : RoleSet) → unionOf s s ≡ s
+unfolding unionOf
+union-self s = λ i. record { low = or-self (s .low) i; high = or-self (s .high) i }
+
+-- ---- the count is the number of members
+
+pub size-members : {s : RoleSet} → Sized s → sizeOf s ≡ tally 128 (hasRole s)
+unfolding sizeOf
+size-members {s} sized = ap₂ _+_ (ones-tally 64 (s .low) (sized .low)) (ones-tally 64 (s .high) (sized .high))
+    ∙ ap₂ _+_ (tally-same 64 (bit (s .low)) (hasRole s) (λ k h. sym (has-low s k h)))
+    (tally-same 64 (bit (s .high)) (λ k. hasRole s (64 + k)) (λ k h. sym (has-high s k h)))
+    ∙ sym (tally-join 64 64 (hasRole s))
