@@ -1,6 +1,7 @@
 -- What a reader must believe about policies and typings, and what is proved of it.
 pub mod Policy
 pub mod Typing
+pub mod Meaning
 pub mod Closure
 pub mod States
 pub mod Safety

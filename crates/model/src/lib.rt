@@ -1,4 +1,4 @@
-// The records that policies and states are made of.
+// The records that policies, states and typings are made of.
 use roles::RoleSet;
 
 // An actor who holds `admin` gives `target` to a user who holds all of `positive`, none of `negative` and not yet `target`.
@@ -19,4 +19,11 @@ pub struct Revoke {
 pub struct Person {
     pub clearance: bool,
     pub roles: RoleSet,
+}
+
+// A typing by role number: a label, true for H, a plus set and a minus set for each role.
+pub struct Typing {
+    pub labels: [bool; 128],
+    pub plus: [RoleSet; 128],
+    pub minus: [RoleSet; 128],
 }

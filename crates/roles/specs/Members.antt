@@ -1,6 +1,6 @@
 -- Membership of a role in a set, and the law of each operation over membership.
 use Prim.Native.Nat.{ℕ, zero, suc, _+_, _-_, _*_, _/_, _%_, _^_, _≤_, _<_}
-use mathlib.Core.Bool.{Bool, true, false, not, _&&_, _||_, false≢true, or-true}
+use mathlib.Core.Bool.{Bool, true, false, cond, not, _&&_, _||_, false≢true, or-true, and-eq-true-iff}
 use mathlib.Core.Logic.{_⊎_, inl, inr}
 use mathlib.Core.Path.{_≡_, refl, sym, ap, ap₂, _∙_, subst, subst⁻¹}
 use borrow.Author.Tests.{ltb-true, ltb-false, lt-ltb, le-ltb, eqb-true, eq-eqb, ne-eqb}
@@ -11,7 +11,7 @@ use native.Mathlib.Decide.{decLt}
 use native.Mathlib.Nat.{lt-of-le-of-lt, add-sub-cancel-left}
 use native.Mathlib.Omega.{arith}
 use Rattle.roles.specs.declared.RoleSet.{RoleSet}
-use Rattle.roles.specs.Sets.{pick, bit, hasRole, emptySet, singleOf, unionOf, meetOf, withOf, lessOf, withoutOf, sameSet, sharesRole, includes, sizeOf}
+use Rattle.roles.specs.Sets.{bit, hasRole, emptySet, singleOf, unionOf, meetOf, withOf, lessOf, withoutOf, sameSet, sharesRole, includes, sizeOf}
 use Rattle.roles.specs.Words.{differs, bit-or, bit-and, bit-xor, bit-own, bit-other, bit-zero, same-bits, or-assoc, search-below, tally, tally-join, tally-same, ones-tally}
 
 infix 40 _∈_
@@ -185,15 +185,11 @@ union-left {role} {s} t h = record { found = has-union s t role ∙ ap (λ (b : 
 pub union-right : {role : ℕ} (s : RoleSet) {t : RoleSet} → role ∈ t → role ∈ unionOf s t
 union-right {role} s {t} h = record { found = has-union s t role ∙ ap (λ (b : Bool). hasRole s role || b) (h .found) ∙ or-true (hasRole s role) }
 
-both : (a b : Bool) → (a && b) ≡ true → (a ≡ true) × (b ≡ true)
-both true b e = (refl, e)
-both false b e = absurd (false≢true e)
-
 pub meet-left : {role : ℕ} (s t : RoleSet) → role ∈ meetOf s t → role ∈ s
-meet-left {role} s t h = record { found = both (hasRole s role) (hasRole t role) (sym (has-meet s t role) ∙ h .found) .0 }
+meet-left {role} s t h = record { found = and-eq-true-iff (hasRole s role) (hasRole t role) .0 (sym (has-meet s t role) ∙ h .found) .0 }
 
 pub meet-right : {role : ℕ} (s t : RoleSet) → role ∈ meetOf s t → role ∈ t
-meet-right {role} s t h = record { found = both (hasRole s role) (hasRole t role) (sym (has-meet s t role) ∙ h .found) .1 }
+meet-right {role} s t h = record { found = and-eq-true-iff (hasRole s role) (hasRole t role) .0 (sym (has-meet s t role) ∙ h .found) .1 }
 
 pub meet-both : {role : ℕ} {s t : RoleSet} → role ∈ s → role ∈ t → role ∈ meetOf s t
 meet-both {role} {s} {t} h g = record { found = has-meet s t role ∙ ap₂ _&&_ (h .found) (g .found) }
@@ -224,13 +220,13 @@ has-without s t role = has-less s (meetOf s t) role ∙ ap (differs (hasRole s r
 
 pub without-old : {role : ℕ} (s : RoleSet) (less : ℕ) → role ∈ withoutOf s less → role ∈ s
 unfolding withoutOf
-without-old {role} s less h = record { found = both (hasRole s role) (not (hasRole (singleOf less) role)) (sym (has-without s (singleOf less) role) ∙ h .found) .0 }
+without-old {role} s less h = record { found = and-eq-true-iff (hasRole s role) (not (hasRole (singleOf less) role)) .0 (sym (has-without s (singleOf less) role) ∙ h .found) .0 }
 
 pub without-gone : (s : RoleSet) (less : ℕ) → less ∈ withoutOf s less → ⊥
 unfolding withoutOf
 without-gone s less h =
     let own = single-own (below (without-old s less h)) in
-    false≢true (sym (ap not (own .found)) ∙ both (hasRole s less) (not (hasRole (singleOf less) less)) (sym (has-without s (singleOf less) less) ∙ h .found) .1)
+    false≢true (sym (ap not (own .found)) ∙ and-eq-true-iff (hasRole s less) (not (hasRole (singleOf less) less)) .0 (sym (has-without s (singleOf less) less) ∙ h .found) .1)
 
 pub without-other : {role : ℕ} {s : RoleSet} (less : ℕ) → role ∈ s → (role ≡ less → ⊥) → role ∈ withoutOf s less
 unfolding withoutOf
@@ -275,7 +271,7 @@ meet-sized s t sized = record {
 pub same-equal : (s t : RoleSet) → sameSet s t ≡ true → s ≡ t
 unfolding sameSet
 same-equal s t h =
-    let words = both (eqb (s .low) (t .low)) (eqb (s .high) (t .high)) h in
+    let words = and-eq-true-iff (eqb (s .low) (t .low)) (eqb (s .high) (t .high)) .0 h in
     λ i. record { low = eqb-true (s .low) (t .low) (words .0) i; high = eqb-true (s .high) (t .high) (words .1) i }
 
 pub equal-same : (s : RoleSet) → sameSet s s ≡ true

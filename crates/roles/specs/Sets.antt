@@ -1,15 +1,10 @@
 -- A set of roles in two 64-bit words, and what each operation on it gives.
 use Prim.Native.Nat.{ℕ, _+_, _-_, _/_, _%_, _^_}
-use mathlib.Core.Bool.{Bool, true, false, not, _&&_}
+use mathlib.Core.Bool.{Bool, true, false, cond, not, _&&_}
 use lib.Bits.{bitAnd, bitOr, bitXor}
 use lib.Count.{ones}
 use lib.Dec.{ltb, eqb}
 use Rattle.roles.specs.declared.RoleSet.{RoleSet}
-
--- the first of two answers where the test holds, the second where it does not
-abbrev pub pick {ℓ} : {A : Type ℓ} → Bool → A → A → A
-pick true a b = a
-pick false a b = b
 
 -- bit k of a word is set
 unfoldable pub bit : ℕ → ℕ → Bool
@@ -17,7 +12,7 @@ bit word k = eqb (word / 2 ^ k % 2) 1
 
 -- bit r of the low word is role r, bit r of the high word is role 64 + r, and there is no role above 127
 unfoldable pub hasRole : RoleSet → ℕ → Bool
-hasRole s role = pick (ltb role 64) (bit (s .low) role) (pick (ltb role 128) (bit (s .high) (role - 64)) false)
+hasRole s role = cond (ltb role 64) (bit (s .low) role) (cond (ltb role 128) (bit (s .high) (role - 64)) false)
 
 -- no role
 unfoldable pub emptySet : RoleSet
@@ -26,8 +21,8 @@ emptySet = record { low = 0; high = 0 }
 -- one role; a number above 127 is no role
 unfoldable pub singleOf : ℕ → RoleSet
 singleOf role =
-    pick (ltb role 64) (record { low = 2 ^ role; high = 0 })
-    (pick (ltb role 128) (record { low = 0; high = 2 ^ (role - 64) }) emptySet)
+    cond (ltb role 64) (record { low = 2 ^ role; high = 0 })
+    (cond (ltb role 128) (record { low = 0; high = 2 ^ (role - 64) }) emptySet)
 
 -- the roles of either
 unfoldable pub unionOf : RoleSet → RoleSet → RoleSet

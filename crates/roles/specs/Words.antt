@@ -1,6 +1,6 @@
 -- The bits of a word: what the bit operations do to each, words with the same bits, and how many are set.
 use Prim.Native.Nat.{ℕ, zero, suc, _+_, _-_, _*_, _/_, _%_, _^_, _≤_, _<_, min, max}
-use mathlib.Core.Bool.{Bool, true, false, not, _&&_, _||_, false≢true}
+use mathlib.Core.Bool.{Bool, true, false, cond, not, _&&_, _||_, false≢true}
 use mathlib.Core.Path.{_≡_, refl, sym, ap, ap₂, _∙_, fun-ext}
 use mathlib.Core.Logic.{_⊎_, inl, inr}
 use borrow.Author.Tests.{eqb-true, eq-eqb, ne-eqb}
@@ -13,7 +13,7 @@ use lib.Pow.{pow-add, pow-lt, pow-pos, shr-shr, shr-lt, shl-shr}
 use native.Mathlib.Nat.{mod-lt, div-add-mod', add-zero, zero-add, suc-add, add-assoc, mul-one, one-mul, pow-suc, pow-zero, mul-mod-left, mul-div-cancel, div-eq-of-lt, div-one, lt-irrefl}
 use native.Mathlib.Numerals.{one-add, add-one}
 use native.Mathlib.Omega.{arith}
-use Rattle.roles.specs.Sets.{pick, bit}
+use Rattle.roles.specs.Sets.{bit}
 
 -- a digit is 0 or 1
 digit-cases : (P : ℕ → Type 0) → P 0 → P 1 → (x : ℕ) → x < 2 → P x
@@ -141,17 +141,17 @@ same-bits (suc n) a b ha hb same =
 -- how many of the numbers below n pass the test
 unfoldable pub tally : ℕ → (ℕ → Bool) → ℕ
 tally zero test = 0
-tally (suc n) test = pick (test 0) 1 0 + tally n (λ k. test (suc k))
+tally (suc n) test = cond (test 0) 1 0 + tally n (λ k. test (suc k))
 
-digit-counts : (x : ℕ) → x < 2 → x ≡ pick (eqb x 1) 1 0
-digit-counts = digit-cases (λ (x : ℕ). x ≡ pick (eqb x 1) 1 0) refl refl
+digit-counts : (x : ℕ) → x < 2 → x ≡ cond (eqb x 1) 1 0
+digit-counts = digit-cases (λ (x : ℕ). x ≡ cond (eqb x 1) 1 0) refl refl
 
 -- the set digits of a word of n digits
 pub ones-tally : (n a : ℕ) → a < 2 ^ n → ones a ≡ tally n (bit a)
 unfolding tally ones
 ones-tally zero a h = ap ones (lt-one h)
 ones-tally (suc n) a h =
-    ones-step a ∙ ap₂ _+_ (digit-counts (a % 2) (mod-lt a (lit< tt)) ∙ ap (λ (b : Bool). pick b 1 0) (sym (bit-first a)))
+    ones-step a ∙ ap₂ _+_ (digit-counts (a % 2) (mod-lt a (lit< tt)) ∙ ap (λ (b : Bool). cond b 1 0) (sym (bit-first a)))
     (ones-tally n (a / 2) (half-below n a h) ∙ ap (tally n) (fun-ext (λ k. sym (bit-suc a k))))
 
 -- the numbers below m, and the n from m on
@@ -160,15 +160,15 @@ unfolding tally
 tally-join zero n test = rw (zero-add n) (sym (zero-add (tally n test)) ∙ ap (λ (f : ℕ → Bool). 0 + tally n f) (fun-ext (λ k. ap test (sym (zero-add k)))))
 tally-join (suc m) n test =
     ap (λ (x : ℕ). tally x test) (suc-add m n)
-    ∙ ap (λ (x : ℕ). pick (test 0) 1 0 + x) (tally-join m n (λ k. test (suc k)))
-    ∙ sym (add-assoc (pick (test 0) 1 0) (tally m (λ k. test (suc k))) (tally n (λ k. test (suc (m + k)))))
-    ∙ ap (λ (f : ℕ → Bool). pick (test 0) 1 0 + tally m (λ k. test (suc k)) + tally n f) (fun-ext (λ k. ap test (sym (suc-add m k))))
+    ∙ ap (λ (x : ℕ). cond (test 0) 1 0 + x) (tally-join m n (λ k. test (suc k)))
+    ∙ sym (add-assoc (cond (test 0) 1 0) (tally m (λ k. test (suc k))) (tally n (λ k. test (suc (m + k)))))
+    ∙ ap (λ (f : ℕ → Bool). cond (test 0) 1 0 + tally m (λ k. test (suc k)) + tally n f) (fun-ext (λ k. ap test (sym (suc-add m k))))
 
 pub tally-same : (n : ℕ) (test test′ : ℕ → Bool) → ((k : ℕ) → k < n → test k ≡ test′ k) → tally n test ≡ tally n test′
 unfolding tally
 tally-same zero test test′ same = refl
 tally-same (suc n) test test′ same =
-    ap₂ (λ (b : Bool) (x : ℕ). pick b 1 0 + x) (same 0 (omega arith))
+    ap₂ (λ (b : Bool) (x : ℕ). cond b 1 0 + x) (same 0 (omega arith))
     (tally-same n (λ k. test (suc k)) (λ k. test′ (suc k)) (λ k h. same (suc k) (omega arith)))
 
 -- a number below n that passes the test, or none does

@@ -1,3 +1,4 @@
+-- `count` adds two counts of at most 64 ones each, so the sum fits.
 use borrow.Author.Needs.{needs}
 use lib.Count.{ones-le}
 use mathlib.Core.Path.{refl}

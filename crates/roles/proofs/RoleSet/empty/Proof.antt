@@ -1,3 +1,4 @@
+-- `empty` is the written empty set.
 use mathlib.Core.Path.{refl}
 use Rattle.roles.specs.Sets.{emptySet}
 use Rattle.roles.proofs.RoleSet.empty.Statement.{statement}

@@ -1,3 +1,4 @@
+-- `has` shifts the word that the role stands in; the tests say which word that is.
 use borrow.Author.Tests.{lt-ltb, le-ltb}
 use borrow.Author.Needs.{needs}
 use Rattle.roles.specs.Sets.{hasRole, bit}

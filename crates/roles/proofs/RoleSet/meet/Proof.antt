@@ -1,3 +1,4 @@
+-- `meet` is the meeting, word by word.
 use mathlib.Core.Path.{refl}
 use Rattle.roles.specs.Sets.{meetOf}
 use Rattle.roles.proofs.RoleSet.meet.Statement.{statement}

@@ -1,3 +1,4 @@
+-- `same` compares both words.
 use mathlib.Core.Path.{refl}
 use Rattle.roles.specs.Sets.{sameSet}
 use Rattle.roles.proofs.RoleSet.same.Statement.{statement}

@@ -1,3 +1,4 @@
+-- `shares` asks whether the meeting is the empty set, by what its callees promise.
 use borrow.Author.Needs.{needs}
 use Rattle.roles.specs.Sets.{sharesRole}
 use Rattle.roles.proofs.RoleSet.shares.Statement.{statement}

@@ -1,3 +1,4 @@
+-- `union` is the union, word by word.
 use mathlib.Core.Path.{refl}
 use Rattle.roles.specs.Sets.{unionOf}
 use Rattle.roles.proofs.RoleSet.union.Statement.{statement}

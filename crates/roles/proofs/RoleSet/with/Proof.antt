@@ -1,3 +1,4 @@
+-- `with` is the union with a set of one, by what its callees promise.
 use borrow.Author.Needs.{needs}
 use Rattle.roles.specs.Sets.{withOf}
 use Rattle.roles.proofs.RoleSet.with.Statement.{statement}

@@ -1,3 +1,4 @@
+-- `within` asks whether the meeting is the set itself, by what its callees promise.
 use borrow.Author.Needs.{needs}
 use Rattle.roles.specs.Sets.{includes}
 use Rattle.roles.proofs.RoleSet.within.Statement.{statement}

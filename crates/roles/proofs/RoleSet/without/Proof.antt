@@ -1,3 +1,4 @@
+-- `without` takes the meeting with a set of one away, by what its callees promise.
 use borrow.Author.Needs.{needs}
 use Rattle.roles.specs.Sets.{withoutOf, lessOf}
 use Rattle.roles.proofs.RoleSet.without.Statement.{statement}

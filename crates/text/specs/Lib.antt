@@ -1,0 +1,2 @@
+-- How bytes fall into pieces, and the form of each piece.
+pub mod Pieces

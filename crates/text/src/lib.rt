@@ -1,0 +1,1 @@
+// Bytes: how a text falls into lines, fields and names, and the form of each.
