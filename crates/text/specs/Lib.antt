@@ -1,2 +1,4 @@
--- How bytes fall into pieces, and the form of each piece.
+-- How bytes fall into pieces, the form of each piece, and how names are packed and found.
 pub mod Pieces
+pub mod Forms
+pub mod Names

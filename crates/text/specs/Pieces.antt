@@ -5,7 +5,8 @@ use mathlib.Core.List.{List, [], _∷_, _++_}
 use mathlib.Core.Path.{_≡_, refl, sym, ap, ap₂, _∙_}
 use borrow.Author.Tests.{eqb-true, eq-eqb, lt-ltb, le-ltb}
 use lib.Dec.{eqb, ltb}
-use lib.ListN.{length, take, drop}
+use lib.ListN.{length, take, drop, length-drop}
+use lib.Seq.{take-all}
 use native.Mathlib.Omega.{arith}
 use Rattle.bytes.specs.Bytes.{indexOf, indexAfter}
 
@@ -77,3 +78,16 @@ pub equal-same : (s : List ℕ) → sameBytes s s ≡ true
 unfolding sameBytes
 equal-same [] = refl
 equal-same (a ∷ s) = ap₂ _&&_ (eq-eqb a a refl) (equal-same s)
+
+-- an answer that is true just where two byte strings are equal is the test
+pub same-answer : (s t : List ℕ) (answer : Bool) → (answer ≡ true → s ≡ t) → (s ≡ t → answer ≡ true) → answer ≡ sameBytes s t
+same-answer s t true only if = sym (ap (sameBytes s) (sym (only refl)) ∙ equal-same s)
+same-answer s t false only if = go (sameBytes s t) refl
+  where
+    go : (b : Bool) → sameBytes s t ≡ b → false ≡ sameBytes s t
+    go true e = if (same-equal s t e) ∙ sym e
+    go false e = sym e
+
+-- a part that goes to the end is what is left from its start on
+pub part-rest {ℓ} : {A : Type ℓ} (at : ℕ) (s : List A) → take (length s - at) (drop at s) ≡ drop at s
+part-rest at s = take-all (length s - at) (drop at s) (omega (arith, length-drop at s))

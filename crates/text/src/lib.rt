@@ -1,1 +1,164 @@
-// Bytes: how a text falls into lines, fields and names, and the form of each.
+// Bytes: the form of a name, a label and a number, and names packed into words and found in a table.
+ghost use mathlib.Core.Path.{_≡_};
+ghost use Prim.Native.Nat.{_+_, _*_, _≤_, _<_};
+ghost use lib.ListN.{length, take, drop};
+ghost use Rattle.text.specs.Forms.{isName, isLabel, nameByte, numberOf, bytes};
+ghost use Rattle.text.specs.Names.{value, packed, sameName, placeOf, rowOf, rows};
+ghost use Rattle.text.specs.Pieces.{sameBytes};
+
+// A name of at most 32 bytes, eight to a word, the first lowest, and zeros past its end.
+pub struct Name {
+    pub first: u64,
+    pub second: u64,
+    pub third: u64,
+    pub fourth: u64,
+}
+
+// Whether two byte strings are the same.
+pub fn same(a: &[u8], b: &[u8]) -> bool
+    ensures { λ r. ⌜ r ≡ sameBytes (now (a .entry)) (now (b .entry)) ⌝ }
+{
+    check::same(a, b)
+}
+
+// Whether a byte may stand in a name.
+fn in_name(byte: u8) -> bool
+    ensures { λ r. ⌜ r ≡ nameByte byte ⌝ }
+{
+    let capital = (b'A' <= byte) & (byte <= b'Z');
+    let small = (b'a' <= byte) & (byte <= b'z');
+    let digit = (b'0' <= byte) & (byte <= b'9');
+    capital | small | digit | (byte == b'_')
+}
+
+// Whether a field is a name.
+pub fn is_name(field: &[u8]) -> bool
+    ensures { λ r. ⌜ r ≡ isName (now (field .entry)) ⌝ }
+{
+    if field.len() < 1 {
+        return false;
+    }
+    if 32 < field.len() {
+        return false;
+    }
+    let mut i = 0;
+    while i < field.len() {
+        if !in_name(field[i]) {
+            return false;
+        }
+        i += 1;
+    }
+    true
+}
+
+// Whether a field is a clearance or a label.
+pub fn is_label(field: &[u8]) -> bool
+    ensures { λ r. ⌜ r ≡ isLabel (now (field .entry)) ⌝ }
+{
+    same(field, b"L") | same(field, b"H")
+}
+
+// The rule number that a field writes, 0 where it writes none.
+pub fn number(field: &[u8]) -> usize
+    ensures { λ r. ⌜ r ≡ numberOf (now (field .entry)) ⌝ }
+{
+    if field.len() < 1 {
+        return 0;
+    }
+    if 3 < field.len() {
+        return 0;
+    }
+    if field[0] == b'0' {
+        return 0;
+    }
+    let mut n: usize = 0;
+    let mut i = 0;
+    while i < field.len() {
+        let digit = field[i];
+        if digit < b'0' {
+            return 0;
+        }
+        if b'9' < digit {
+            return 0;
+        }
+        n = n * 10 + (digit - b'0') as usize;
+        i += 1;
+    }
+    n
+}
+
+// Up to eight bytes as one number, the first lowest.
+fn word(part: &[u8]) -> u64
+    requires { ⌜ length (now part) ≤ 8 ⌝ }
+    ensures { λ r. ⌜ r ≡ value (now (part .entry)) ⌝ }
+{
+    let mut n: u64 = 0;
+    let mut i = part.len();
+    while 0 < i {
+        i -= 1;
+        n = n * 256 + part[i] as u64;
+    }
+    n
+}
+
+// The eight bytes from a place on as one number, fewer where the field ends before.
+fn word_at(field: &[u8], at: usize) -> u64
+    requires { ⌜ at ≤ 24 ⌝ }
+    ensures { λ r. ⌜ r ≡ value (take 8 (drop at (now (field .entry)))) ⌝ }
+{
+    if field.len() <= at {
+        return 0;
+    }
+    if field.len() - at <= 8 {
+        return word(&field[at..]);
+    }
+    word(&field[at..at + 8])
+}
+
+// A field packed into words; a name loses nothing.
+pub fn pack(field: &[u8]) -> Name
+    ensures { λ r. ⌜ r ≡ packed (now (field .entry)) ⌝ }
+{
+    Name {
+        first: word_at(field, 0),
+        second: word_at(field, 8),
+        third: word_at(field, 16),
+        fourth: word_at(field, 24),
+    }
+}
+
+// Whether two names are the same.
+fn same_name(a: Name, b: Name) -> bool
+    ensures { λ r. ⌜ r ≡ sameName a b ⌝ }
+{
+    (a.first == b.first) & (a.second == b.second) & (a.third == b.third) & (a.fourth == b.fourth)
+}
+
+// The name at a place of a table, four words each.
+pub fn row(table: &[u64], place: usize) -> Name
+    requires { ⌜ 4 * place + 3 < length (now table) ⌝ }
+    ensures { λ r. ⌜ r ≡ rowOf (drop (4 * place) (now (table .entry))) ⌝ }
+{
+    let at = 4 * place;
+    Name {
+        first: table[at],
+        second: table[at + 1],
+        third: table[at + 2],
+        fourth: table[at + 3],
+    }
+}
+
+// The place of a name among the first `count` of a table, or `count` where it stands nowhere.
+pub fn find(table: &[u64], count: usize, name: Name) -> usize
+    requires { ⌜ 4 * count ≤ length (now table) ⌝ }
+    ensures { λ r. ⌜ r ≡ placeOf (rows count (now (table .entry))) name ⌝ }
+{
+    let mut place = 0;
+    while place < count {
+        if same_name(row(table, place), name) {
+            return place;
+        }
+        place += 1;
+    }
+    place
+}

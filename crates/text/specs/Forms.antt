@@ -1,0 +1,148 @@
+-- The form of a name, a set, a label and a rule number, in the order of document 01, "The texts".
+use Prim.Native.Nat.{ℕ, zero, suc, _+_, _-_, _*_, _^_, _≤_, _<_}
+use Prim.Native.Char.{Char, code}
+use Prim.Native.String.{String}
+use mathlib.Core.Bool.{Bool, true, false, cond, not, _&&_, _||_, and-false}
+use mathlib.Core.List.{List, [], _∷_}
+use mathlib.Core.Path.{_≡_, ap, _∙_}
+use borrow.Author.Tests.{lt-leb, le-leb, eq-eqb, ne-eqb}
+use lib.Dec.{eqb, leb, lit≤}
+use lib.ListN.{length, getD, drop, drop-of-length-le}
+use lib.Seq.{drop-cons}
+use native.Mathlib.Nat.{pow-suc}
+use native.Mathlib.Numerals.{add-one}
+use native.Mathlib.Omega.{arith}
+use Rattle.text.specs.Pieces.{split, sameBytes, repeated}
+
+-- the bytes of an ASCII text
+abbrev pub bytes : String → List ℕ
+bytes String.[] = []
+bytes (String._∷_ c rest) = code c ∷ bytes rest
+
+-- every element passes the test
+unfoldable pub every {ℓ} : {A : Type ℓ} → (A → Bool) → List A → Bool
+every test [] = true
+every test (a ∷ rest) = test a && every test rest
+
+-- a byte from one to another
+unfoldable pub between : ℕ → ℕ → ℕ → Bool
+between least most byte = leb least byte && leb byte most
+
+-- ASCII letters, digits and `_`
+unfoldable pub nameByte : ℕ → Bool
+nameByte byte = between 65 90 byte || between 97 122 byte || between 48 57 byte || eqb byte 95
+
+-- names have 1 to 32 bytes of them
+unfoldable pub isName : List ℕ → Bool
+isName s = leb 1 (length s) && leb (length s) 32 && every nameByte s
+
+-- a set is names joined by commas; the empty set is `-`
+unfoldable pub namesOf : List ℕ → List (List ℕ)
+namesOf field = cond (sameBytes field (bytes "-")) [] (split 44 field)
+
+-- without repeats
+unfoldable pub isSet : List ℕ → Bool
+isSet field = every isName (namesOf field) && not (repeated (namesOf field))
+
+-- a clearance or a label is `L` or `H`
+unfoldable pub isLabel : List ℕ → Bool
+isLabel field = sameBytes field (bytes "L") || sameBytes field (bytes "H")
+
+-- a rule number has 1 to 3 digits and no leading zero
+unfoldable pub isNumber : List ℕ → Bool
+isNumber s = leb 1 (length s) && leb (length s) 3 && not (eqb (getD s 0 0) 48) && every (between 48 57) s
+
+-- the number that digits write, after a number that stands before them
+unfoldable pub decimal : ℕ → List ℕ → ℕ
+decimal before [] = before
+decimal before (digit ∷ rest) = decimal (before * 10 + (digit - 48)) rest
+
+-- the number written, 0 where none is
+unfoldable pub numberOf : List ℕ → ℕ
+numberOf s = cond (isNumber s) (decimal 0 s) 0
+
+-- ---- going through a byte string one byte at a time
+
+-- the test of what is left is that of the next byte and of what is left after it
+pub every-next {ℓ} : {A : Type ℓ} (test : A → Bool) (s : List A) (i : ℕ) (past : A) → i < length s → every test (drop i s) ≡ (test (getD s i past) && every test (drop (i + 1) s))
+unfolding every
+every-next test s i past h = rw (add-one i, drop-cons s i past h)
+
+-- and so of the number written
+pub decimal-next : (before : ℕ) (s : List ℕ) (i : ℕ) → i < length s → decimal before (drop i s) ≡ decimal (before * 10 + (getD s i 0 - 48)) (drop (i + 1) s)
+unfolding decimal
+decimal-next before s i h = rw (add-one i, drop-cons s i 0 h)
+
+-- nothing is left
+pub every-end {ℓ} : {A : Type ℓ} (test : A → Bool) (s : List A) (i : ℕ) → length s ≤ i → every test (drop i s) ≡ true
+unfolding every
+every-end test s i h = rw (drop-of-length-le s h)
+
+pub decimal-end : (before : ℕ) (s : List ℕ) (i : ℕ) → length s ≤ i → decimal before (drop i s) ≡ before
+unfolding decimal
+decimal-end before s i h = rw (drop-of-length-le s h)
+
+-- a number of i digits is below 10 ^ i, and up to three digits are below 1,000
+pub digits-next : (n i d : ℕ) → n < 10 ^ i → d < 10 → n * 10 + d < 10 ^ (i + 1)
+digits-next n i d h k = rw (add-one i, pow-suc 10 i) (omega arith)
+
+pub digits-few : (i : ℕ) → i ≤ 3 → 10 ^ i ≤ 1000
+digits-few zero h = lit≤ tt
+digits-few (suc zero) h = lit≤ tt
+digits-few (suc (suc zero)) h = lit≤ tt
+digits-few (suc (suc (suc zero))) h = lit≤ tt
+digits-few (suc (suc (suc (suc i)))) h = absurd (omega arith)
+
+-- ---- the form of a name and of a number, from what a reader finds on its way
+
+pub name-short : (s : List ℕ) → length s < 1 → isName s ≡ false
+unfolding isName
+name-short s h = rw (lt-leb 1 (length s) h)
+
+pub name-long : (s : List ℕ) → 32 < length s → isName s ≡ false
+unfolding isName
+name-long s h = rw (lt-leb (length s) 32 h) (ap (λ (b : Bool). b && every nameByte s) (and-false (leb 1 (length s))))
+
+pub name-fits : (s : List ℕ) → 1 ≤ length s → length s ≤ 32 → isName s ≡ every nameByte s
+unfolding isName
+name-fits s least most = rw (le-leb 1 (length s) least, le-leb (length s) 32 most)
+
+-- a byte that fails the test
+pub every-bad {ℓ} : {A : Type ℓ} (test : A → Bool) (s : List A) (i : ℕ) (past : A) → i < length s → test (getD s i past) ≡ false → every test (drop i s) ≡ false
+every-bad test s i past h bad = every-next test s i past h ∙ ap (λ (b : Bool). b && every test (drop (i + 1) s)) bad
+
+pub every-good {ℓ} : {A : Type ℓ} (test : A → Bool) (s : List A) (i : ℕ) (past : A) → i < length s → test (getD s i past) ≡ true → every test (drop i s) ≡ every test (drop (i + 1) s)
+every-good test s i past h good = every-next test s i past h ∙ ap (λ (b : Bool). b && every test (drop (i + 1) s)) good
+
+pub number-short : (s : List ℕ) → length s < 1 → numberOf s ≡ 0
+unfolding numberOf isNumber
+number-short s h = rw (lt-leb 1 (length s) h)
+
+pub number-long : (s : List ℕ) → 3 < length s → numberOf s ≡ 0
+unfolding numberOf isNumber
+number-long s h = rw (lt-leb (length s) 3 h, and-false (leb 1 (length s)))
+
+pub number-zero : (s : List ℕ) → getD s 0 0 ≡ 48 → numberOf s ≡ 0
+unfolding numberOf isNumber
+number-zero s h = rw (eq-eqb (getD s 0 0) 48 h, and-false (leb 1 (length s) && leb (length s) 3))
+
+pub number-bad : (s : List ℕ) → every (between 48 57) s ≡ false → numberOf s ≡ 0
+unfolding numberOf isNumber
+number-bad s h = rw (h, and-false (leb 1 (length s) && leb (length s) 3 && not (eqb (getD s 0 0) 48)))
+
+pub number-good : (s : List ℕ) → 1 ≤ length s → length s ≤ 3 → (getD s 0 0 ≡ 48 → ⊥) → every (between 48 57) s ≡ true → numberOf s ≡ decimal 0 s
+unfolding numberOf isNumber
+number-good s least most lead digits = rw (le-leb 1 (length s) least, le-leb (length s) 3 most, ne-eqb (getD s 0 0) 48 lead, digits)
+
+-- the test of a digit
+pub digit-low : (byte : ℕ) → byte < 48 → between 48 57 byte ≡ false
+unfolding between
+digit-low byte h = rw (lt-leb 48 byte h)
+
+pub digit-high : (byte : ℕ) → 57 < byte → between 48 57 byte ≡ false
+unfolding between
+digit-high byte h = rw (lt-leb byte 57 h, and-false (leb 48 byte))
+
+pub digit-good : (byte : ℕ) → 48 ≤ byte → byte ≤ 57 → between 48 57 byte ≡ true
+unfolding between
+digit-good byte least most = rw (le-leb 48 byte least, le-leb byte 57 most)

@@ -1,0 +1,105 @@
+-- A name packed into four 64-bit words, tables of packed names, and where a name stands in one.
+use Prim.Native.Nat.{ℕ, zero, suc, _+_, _-_, _*_, _/_, _%_, _^_, _≤_, _<_}
+use mathlib.Core.Bool.{Bool, true, false, cond, _&&_}
+use mathlib.Core.List.{List, [], _∷_, _++_}
+use mathlib.Core.Path.{_≡_, refl, sym, ap, ap₂, _∙_}
+use lib.Dec.{eqb, lit≤}
+use lib.ListN.{length, getD, take, drop, drop-of-length-le}
+use lib.Seq.{drop-cons, drop-drop}
+use native.Mathlib.Nat.{add-zero, pow-suc, pow-le-pow-right}
+use native.Mathlib.Numerals.{add-one}
+use native.Mathlib.Omega.{arith}
+use Rattle.text.specs.declared.Name.{Name}
+
+-- bytes as one number, the first byte lowest
+unfoldable pub value : List ℕ → ℕ
+value [] = 0
+value (byte ∷ rest) = byte + 256 * value rest
+
+-- bytes 0 to 7, 8 to 15, 16 to 23 and 24 to 31
+unfoldable pub packed : List ℕ → Name
+packed s = record {
+  first = value (take 8 s);
+  second = value (take 8 (drop 8 s));
+  third = value (take 8 (drop 16 s));
+  fourth = value (take 8 (drop 24 s));
+}
+
+-- the same four words
+unfoldable pub sameName : Name → Name → Bool
+sameName m n = eqb (m .first) (n .first) && eqb (m .second) (n .second) && eqb (m .third) (n .third) && eqb (m .fourth) (n .fourth)
+
+-- the place of a name, from 0, or the number of names where it stands nowhere
+unfoldable pub placeOf : List Name → Name → ℕ
+placeOf [] name = 0
+placeOf (first ∷ rest) name = cond (sameName first name) 0 (suc (placeOf rest name))
+
+-- the first name of a table of names, four words each
+unfoldable pub rowOf : List ℕ → Name
+rowOf table = record { first = getD table 0 0; second = getD table 1 0; third = getD table 2 0; fourth = getD table 3 0 }
+
+-- its first names
+unfoldable pub rows : ℕ → List ℕ → List Name
+rows zero table = []
+rows (suc count) table = rowOf table ∷ rows count (drop 4 table)
+
+-- ---- packing eight bytes, the last first
+
+-- a byte in front of what is packed already
+pub value-next : (s : List ℕ) (i : ℕ) → i < length s → value (drop i s) ≡ value (drop (suc i) s) * 256 + getD s i 0
+unfolding value
+value-next s i h = rw (drop-cons s i 0 h) (omega arith)
+
+pub value-end : (s : List ℕ) (i : ℕ) → length s ≤ i → value (drop i s) ≡ 0
+unfolding value
+value-end s i h = rw (drop-of-length-le s h)
+
+-- with i of eight bytes to go the number is below 256 ^ (8 - i), and fits a word
+pub word-bound : (n i byte : ℕ) → 0 < i → i ≤ 8 → n < 256 ^ (8 - i) → byte < 256 → n * 256 + byte < 256 ^ (8 - (i - 1))
+word-bound n i byte some most below small =
+    let one : 8 - (i - 1) ≡ suc (8 - i) = omega arith in
+    rw (one, pow-suc 256 (8 - i)) (omega arith)
+
+pub word-fits : (i : ℕ) → 256 ^ (8 - i) ≤ 2 ^ 64
+word-fits i =
+    let few : 8 - i ≤ 8 = omega arith in
+    pow-le-pow-right (lit≤ tt) few
+
+pub word-next : (s : List ℕ) (n i : ℕ) → 0 < i → i ≤ length s → n ≡ value (drop i s) → n * 256 + getD s (i - 1) 0 ≡ value (drop (i - 1) s)
+word-next s n i some most same =
+    let on : suc (i - 1) ≡ i = omega arith in
+    let here : i - 1 < length s = omega arith in
+    sym (value-next s (i - 1) here ∙ ap (λ (k : ℕ). value (drop k s) * 256 + getD s (i - 1) 0) on ∙ ap (λ (v : ℕ). v * 256 + getD s (i - 1) 0) (sym same))
+
+-- ---- going through a table one name at a time
+
+pub place-next : (table : List ℕ) (count place : ℕ) (name : Name) → place < count
+    → placeOf (rows (count - place) (drop (4 * place) table)) name
+    ≡ cond (sameName (rowOf (drop (4 * place) table)) name) 0 (suc (placeOf (rows (count - (place + 1)) (drop (4 * (place + 1)) table)) name))
+unfolding rows placeOf
+place-next table count place name h =
+    let more : count - place ≡ suc (count - (place + 1)) = omega arith in
+    let on : 4 * place + 4 ≡ 4 * (place + 1) = omega arith in
+    rw (more, ← on, ← drop-drop 4 (4 * place) table)
+
+-- the name at this place, the name further on, the name nowhere
+pub place-found : (table : List ℕ) (count place : ℕ) (name : Name) → place < count
+    → placeOf (rows count table) name ≡ place + placeOf (rows (count - place) (drop (4 * place) table)) name
+    → sameName (rowOf (drop (4 * place) table)) name ≡ true → place ≡ placeOf (rows count table) name
+place-found table count place name h passed same =
+    sym (passed ∙ ap (λ (n : ℕ). place + n) (place-next table count place name h ∙ ap (λ (b : Bool). cond b 0 (suc (placeOf (rows (count - (place + 1)) (drop (4 * (place + 1)) table)) name))) same) ∙ add-zero place)
+
+pub place-passed : (table : List ℕ) (count place : ℕ) (name : Name) → place < count
+    → placeOf (rows count table) name ≡ place + placeOf (rows (count - place) (drop (4 * place) table)) name
+    → sameName (rowOf (drop (4 * place) table)) name ≡ false
+    → placeOf (rows count table) name ≡ place + 1 + placeOf (rows (count - (place + 1)) (drop (4 * (place + 1)) table)) name
+place-passed table count place name h passed other =
+    let more = place-next table count place name h ∙ ap (λ (b : Bool). cond b 0 (suc (placeOf (rows (count - (place + 1)) (drop (4 * (place + 1)) table)) name))) other in
+    omega (arith, passed, more)
+
+pub place-none : (table : List ℕ) (count place : ℕ) (name : Name) → count ≤ place
+    → placeOf (rows count table) name ≡ place + placeOf (rows (count - place) (drop (4 * place) table)) name → place ≡ placeOf (rows count table) name
+unfolding rows placeOf
+place-none table count place name h passed =
+    let none : count - place ≡ 0 = omega arith in
+    sym (passed ∙ ap (λ (k : ℕ). place + placeOf (rows k (drop (4 * place) table)) name) none ∙ add-zero place)
