@@ -2,12 +2,12 @@
 use Prim.Native.Nat.{ℕ, zero, suc, _+_, _-_, _*_, _^_, _≤_, _<_}
 use Prim.Native.Char.{Char, code}
 use Prim.Native.String.{String}
-use mathlib.Core.Bool.{Bool, true, false, cond, not, _&&_, _||_, and-false}
+use mathlib.Core.Bool.{Bool, true, false, cond, not, _&&_, _||_, and-false, and-eq-true-iff, false≢true}
 use mathlib.Core.List.{List, [], _∷_}
-use mathlib.Core.Path.{_≡_, ap, _∙_}
-use borrow.Author.Tests.{lt-leb, le-leb, eq-eqb, ne-eqb}
+use mathlib.Core.Path.{_≡_, refl, ap, ap₂, _∙_}
+use borrow.Author.Tests.{lt-leb, le-leb, eq-eqb, ne-eqb, leb-true, eqb-true}
 use lib.Dec.{eqb, leb, lit≤}
-use lib.ListN.{length, getD, drop, drop-of-length-le}
+use lib.ListN.{length, getD, take, drop, drop-of-length-le}
 use lib.Seq.{drop-cons}
 use native.Mathlib.Nat.{pow-suc}
 use native.Mathlib.Numerals.{add-one}
@@ -146,3 +146,39 @@ digit-high byte h = rw (lt-leb byte 57 h, and-false (leb 48 byte))
 pub digit-good : (byte : ℕ) → 48 ≤ byte → byte ≤ 57 → between 48 57 byte ≡ true
 unfolding between
 digit-good byte least most = rw (le-leb 48 byte least, le-leb byte 57 most)
+
+-- ---- the bytes of a name
+
+pub in-range : (least most byte : ℕ) → between least most byte ≡ true → (least ≤ byte) × (byte ≤ most)
+unfolding between
+in-range least most byte h =
+    let parts = and-eq-true-iff (leb least byte) (leb byte most) .0 h in
+    (leb-true least byte (parts .0), leb-true byte most (parts .1))
+
+-- none is 0
+pub name-byte-range : (byte : ℕ) → nameByte byte ≡ true → (48 ≤ byte) × (byte ≤ 122)
+unfolding nameByte
+name-byte-range byte h = go (between 65 90 byte) (between 97 122 byte) (between 48 57 byte) (eqb byte 95) refl refl refl refl h
+  where
+    go : (b c d e : Bool) → between 65 90 byte ≡ b → between 97 122 byte ≡ c → between 48 57 byte ≡ d → eqb byte 95 ≡ e → (b || c || d || e) ≡ true
+        → (48 ≤ byte) × (byte ≤ 122)
+    go true c d e pb pc pd pe h = omega (arith, in-range 65 90 byte pb)
+    go false true d e pb pc pd pe h = omega (arith, in-range 97 122 byte pc)
+    go false false true e pb pc pd pe h = omega (arith, in-range 48 57 byte pd)
+    go false false false true pb pc pd pe h = omega (arith, eqb-true byte 95 pe)
+    go false false false false pb pc pd pe h = absurd (false≢true h)
+
+-- the first bytes, and the bytes after them
+pub every-take {ℓ} : {A : Type ℓ} (test : A → Bool) (n : ℕ) (s : List A) → every test s ≡ true → every test (take n s) ≡ true
+unfolding every
+every-take test zero s h = refl
+every-take test (suc n) [] h = refl
+every-take test (suc n) (a ∷ s) h =
+    let parts = and-eq-true-iff (test a) (every test s) .0 h in
+    ap₂ _&&_ (parts .0) (every-take test n s (parts .1))
+
+pub every-drop {ℓ} : {A : Type ℓ} (test : A → Bool) (n : ℕ) (s : List A) → every test s ≡ true → every test (drop n s) ≡ true
+unfolding every
+every-drop test zero s h = h
+every-drop test (suc n) [] h = refl
+every-drop test (suc n) (a ∷ s) h = every-drop test n s (and-eq-true-iff (test a) (every test s) .0 h .1)

@@ -1,15 +1,17 @@
 -- A name packed into four 64-bit words, tables of packed names, and where a name stands in one.
 use Prim.Native.Nat.{ℕ, zero, suc, _+_, _-_, _*_, _/_, _%_, _^_, _≤_, _<_}
-use mathlib.Core.Bool.{Bool, true, false, cond, _&&_}
+use mathlib.Core.Bool.{Bool, true, false, cond, _&&_, and-eq-true-iff}
 use mathlib.Core.List.{List, [], _∷_, _++_}
 use mathlib.Core.Path.{_≡_, refl, sym, ap, ap₂, _∙_}
-use lib.Dec.{eqb, lit≤}
-use lib.ListN.{length, getD, take, drop, drop-of-length-le}
+use borrow.Author.Tests.{leb-true}
+use lib.Dec.{eqb, leb, lit≤}
+use lib.ListN.{length, getD, take, drop, drop-of-length-le, take-append-drop}
 use lib.Seq.{drop-cons, drop-drop}
 use native.Mathlib.Nat.{add-zero, pow-suc, pow-le-pow-right}
 use native.Mathlib.Numerals.{add-one}
 use native.Mathlib.Omega.{arith}
 use Rattle.text.specs.declared.Name.{Name}
+use Rattle.text.specs.Forms.{every, nameByte, isName, name-byte-range, every-take, every-drop}
 
 -- bytes as one number, the first byte lowest
 unfoldable pub value : List ℕ → ℕ
@@ -103,3 +105,56 @@ unfolding rows placeOf
 place-none table count place name h passed =
     let none : count - place ≡ 0 = omega arith in
     sym (passed ∙ ap (λ (k : ℕ). place + placeOf (rows k (drop (4 * place) table)) name) none ∙ add-zero place)
+
+-- ---- a name loses nothing by packing
+
+-- Bytes that are not 0 are told by their number.
+pub value-one-to-one : (s t : List ℕ) → every nameByte s ≡ true → every nameByte t ≡ true → value s ≡ value t → s ≡ t
+unfolding value every
+value-one-to-one [] [] hs ht same = refl
+value-one-to-one [] (c ∷ t) hs ht same = absurd (omega (arith, name-byte-range c (and-eq-true-iff (nameByte c) (every nameByte t) .0 ht .0)))
+value-one-to-one (b ∷ s) [] hs ht same = absurd (omega (arith, name-byte-range b (and-eq-true-iff (nameByte b) (every nameByte s) .0 hs .0)))
+value-one-to-one (b ∷ s) (c ∷ t) hs ht same =
+    let here = and-eq-true-iff (nameByte b) (every nameByte s) .0 hs in
+    let there = and-eq-true-iff (nameByte c) (every nameByte t) .0 ht in
+    let first : b ≡ c = omega (arith, name-byte-range b (here .0), name-byte-range c (there .0)) in
+    let rest : value s ≡ value t = omega (arith, name-byte-range b (here .0), name-byte-range c (there .0)) in
+    ap₂ _∷_ first (value-one-to-one s t (here .1) (there .1) rest)
+
+-- two lists with the same first elements and the same rest are the same
+rejoin {ℓ} : {A : Type ℓ} (n : ℕ) (s t : List A) → take n s ≡ take n t → drop n s ≡ drop n t → s ≡ t
+rejoin n s t first rest = sym (take-append-drop n s) ∙ ap₂ _++_ first rest ∙ take-append-drop n t
+
+-- eight bytes of two names
+eight : (s t : List ℕ) (at : ℕ) → every nameByte s ≡ true → every nameByte t ≡ true → value (take 8 (drop at s)) ≡ value (take 8 (drop at t)) → take 8 (drop at s) ≡ take 8 (drop at t)
+eight s t at hs ht same =
+    value-one-to-one (take 8 (drop at s)) (take 8 (drop at t)) (every-take nameByte 8 (drop at s) (every-drop nameByte at s hs))
+    (every-take nameByte 8 (drop at t) (every-drop nameByte at t ht)) same
+
+-- Two names with the same words are the same.
+pub packed-one-to-one : (s t : List ℕ) → isName s ≡ true → isName t ≡ true → packed s ≡ packed t → s ≡ t
+unfolding packed isName
+packed-one-to-one s t hs ht same =
+    let name = and-eq-true-iff (leb 1 (length s) && leb (length s) 32) (every nameByte s) .0 hs in
+    let other = and-eq-true-iff (leb 1 (length t) && leb (length t) 32) (every nameByte t) .0 ht in
+    let most = leb-true (length s) 32 (and-eq-true-iff (leb 1 (length s)) (leb (length s) 32) .0 (name .0) .1) in
+    let most′ = leb-true (length t) 32 (and-eq-true-iff (leb 1 (length t)) (leb (length t) 32) .0 (other .0) .1) in
+    rejoin 8 s t (eight s t 0 (name .1) (other .1) (ap (λ (n : Name). n .first) same))
+    (rejoin 8 (drop 8 s) (drop 8 t) (eight s t 8 (name .1) (other .1) (ap (λ (n : Name). n .second) same))
+    (rw (drop-drop 8 8 s, drop-drop 8 8 t)
+    (rejoin 8 (drop 16 s) (drop 16 t) (eight s t 16 (name .1) (other .1) (ap (λ (n : Name). n .third) same))
+    (rw (drop-drop 8 16 s, drop-drop 8 16 t)
+    (rejoin 8 (drop 24 s) (drop 24 t) (eight s t 24 (name .1) (other .1) (ap (λ (n : Name). n .fourth) same))
+    (rw (drop-drop 8 24 s, drop-drop 8 24 t) (drop-of-length-le s most ∙ sym (drop-of-length-le t most′))))))))
+
+-- ---- a table laid out: the names' words one after the other, then zeros
+
+unfoldable pub wordsOf : List Name → List ℕ
+wordsOf [] = []
+wordsOf (name ∷ rest) = name .first ∷ name .second ∷ name .third ∷ name .fourth ∷ wordsOf rest
+
+-- reading a laid out table gives the names
+pub rows-laid : (names : List Name) (rest : List ℕ) → rows (length names) (wordsOf names ++ rest) ≡ names
+unfolding rows wordsOf rowOf
+rows-laid [] rest = refl
+rows-laid (name ∷ names) rest = ap (λ (ns : List Name). name ∷ ns) (rows-laid names rest)
