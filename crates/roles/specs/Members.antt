@@ -3,7 +3,7 @@ use Prim.Native.Nat.{ℕ, zero, suc, _+_, _-_, _*_, _/_, _%_, _^_, _≤_, _<_}
 use mathlib.Core.Bool.{Bool, true, false, cond, not, _&&_, _||_, false≢true, or-true, and-eq-true-iff}
 use mathlib.Core.Logic.{_⊎_, inl, inr}
 use mathlib.Core.Path.{_≡_, refl, sym, ap, ap₂, _∙_, subst, subst⁻¹}
-use borrow.Author.Tests.{ltb-true, ltb-false, lt-ltb, le-ltb, eqb-true, eq-eqb, ne-eqb}
+use borrow.Author.Tests.{ltb-true, ltb-false, lt-ltb, le-ltb, eqb-true, eqb-false, eq-eqb}
 use lib.Bits.{bitAnd, bitOr, bitXor, and-self, or-self, or-comm, and-le-l}
 use lib.Dec.{ltb, eqb}
 use lib.Pow.{pow-pos}
@@ -121,7 +121,7 @@ zero-low s zeros k h = has-low s k h ∙ ap (λ (w : ℕ). bit w k) zeros ∙ bi
 zero-high : (s : RoleSet) → s .high ≡ 0 → (k : ℕ) → k < 64 → hasRole s (64 + k) ≡ false
 zero-high s zeros k h = has-high s k h ∙ ap (λ (w : ℕ). bit w k) zeros ∙ bit-zero k
 
-has-empty : (role : ℕ) → hasRole emptySet role ≡ false
+pub has-empty : (role : ℕ) → hasRole emptySet role ≡ false
 unfolding emptySet
 has-empty role = go (place role)
   where
@@ -193,6 +193,18 @@ meet-right {role} s t h = record { found = and-eq-true-iff (hasRole s role) (has
 
 pub meet-both : {role : ℕ} {s t : RoleSet} → role ∈ s → role ∈ t → role ∈ meetOf s t
 meet-both {role} {s} {t} h g = record { found = has-meet s t role ∙ ap₂ _&&_ (h .found) (g .found) }
+
+-- of a set of one, and of a set with one role more
+has-single : (own other : ℕ) → own < 128 → hasRole (singleOf own) other ≡ eqb own other
+has-single own other fits = go (eqb own other) refl
+  where
+    go : (b : Bool) → eqb own other ≡ b → hasRole (singleOf own) other ≡ eqb own other
+    go true e = subst (λ (r : ℕ). hasRole (singleOf own) r ≡ true) (eqb-true own other e) (single-own fits .found) ∙ sym e
+    go false e = absent-test (λ m. eqb-false own other e (sym (single-only m))) ∙ sym e
+
+pub has-with : (s : RoleSet) (more role : ℕ) → more < 128 → hasRole (withOf s more) role ≡ (hasRole s role || eqb more role)
+unfolding withOf
+has-with s more role fits = has-union s (singleOf more) role ∙ ap (λ (b : Bool). hasRole s role || b) (has-single more role fits)
 
 pub with-cases : {role : ℕ} (s : RoleSet) (more : ℕ) → role ∈ withOf s more → (role ∈ s) ⊎ (role ≡ more)
 unfolding withOf

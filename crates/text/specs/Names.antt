@@ -3,7 +3,7 @@ use Prim.Native.Nat.{ℕ, zero, suc, _+_, _-_, _*_, _/_, _%_, _^_, _≤_, _<_}
 use mathlib.Core.Bool.{Bool, true, false, cond, _&&_, and-eq-true-iff}
 use mathlib.Core.List.{List, [], _∷_, _++_}
 use mathlib.Core.Path.{_≡_, refl, sym, ap, ap₂, _∙_}
-use borrow.Author.Tests.{leb-true}
+use borrow.Author.Tests.{leb-true, eqb-true}
 use lib.Dec.{eqb, leb, lit≤}
 use lib.ListN.{length, getD, take, drop, drop-of-length-le, take-append-drop}
 use lib.Seq.{drop-cons, drop-drop}
@@ -158,3 +158,38 @@ pub rows-laid : (names : List Name) (rest : List ℕ) → rows (length names) (w
 unfolding rows wordsOf rowOf
 rows-laid [] rest = refl
 rows-laid (name ∷ names) rest = ap (λ (ns : List Name). name ∷ ns) (rows-laid names rest)
+
+pub rows-length : (count : ℕ) (table : List ℕ) → length (rows count table) ≡ count
+unfolding rows
+rows-length zero table = refl
+rows-length (suc count) table = ap suc (rows-length count (drop 4 table))
+
+-- ---- a place tells the name
+
+same-words : (m n : Name) → sameName m n ≡ true → m ≡ n
+unfolding sameName
+same-words m n h =
+    let three = and-eq-true-iff (eqb (m .first) (n .first) && eqb (m .second) (n .second) && eqb (m .third) (n .third)) (eqb (m .fourth) (n .fourth)) .0 h in
+    let two = and-eq-true-iff (eqb (m .first) (n .first) && eqb (m .second) (n .second)) (eqb (m .third) (n .third)) .0 (three .0) in
+    let one = and-eq-true-iff (eqb (m .first) (n .first)) (eqb (m .second) (n .second)) .0 (two .0) in
+    λ i. record {
+      first = eqb-true (m .first) (n .first) (one .0) i;
+      second = eqb-true (m .second) (n .second) (one .1) i;
+      third = eqb-true (m .third) (n .third) (two .1) i;
+      fourth = eqb-true (m .fourth) (n .fourth) (three .1) i
+    }
+
+-- two names at one place of a table are the same
+pub place-one-to-one : (names : List Name) (m n : Name) → placeOf names m ≡ placeOf names n → placeOf names m < length names → m ≡ n
+unfolding placeOf
+place-one-to-one [] m n same here = absurd (omega arith)
+place-one-to-one (first ∷ rest) m n same here = go (place-one-to-one rest m n) (sameName first m) (sameName first n) refl refl same here
+  where
+    go : (placeOf rest m ≡ placeOf rest n → placeOf rest m < length rest → m ≡ n) → (b c : Bool) → sameName first m ≡ b → sameName first n ≡ c → cond b 0 (suc (placeOf rest m)) ≡ cond c 0 (suc (placeOf rest n)) → cond b 0 (suc (placeOf rest m)) < suc (length rest) → m ≡ n
+    go below true true p q same here = sym (same-words first m p) ∙ same-words first n q
+    go below true false p q same here = absurd (omega arith)
+    go below false true p q same here = absurd (omega arith)
+    go below false false p q same here =
+        let on : placeOf rest m ≡ placeOf rest n = omega arith in
+        let less : placeOf rest m < length rest = omega arith in
+        below on less

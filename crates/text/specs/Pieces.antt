@@ -1,12 +1,13 @@
 -- The pieces between separators: lines between LFs, fields between tabs, names between commas.
-use Prim.Native.Nat.{ℕ, zero, suc, _+_, _-_, _<_, _≤_}
+use Prim.Native.Nat.{ℕ, zero, suc, _+_, _-_, _<_, _≤_, zero-le}
 use mathlib.Core.Bool.{Bool, true, false, cond, _&&_, _||_, false≢true, and-eq-true-iff}
-use mathlib.Core.List.{List, [], _∷_, _++_}
+use mathlib.Core.List.{List, [], _∷_, _++_, append-assoc}
 use mathlib.Core.Path.{_≡_, refl, sym, ap, ap₂, _∙_}
 use borrow.Author.Tests.{eqb-true, eq-eqb, lt-ltb, le-ltb}
 use lib.Dec.{eqb, ltb}
-use lib.ListN.{length, take, drop, length-drop}
-use lib.Seq.{take-all}
+use lib.ListN.{length, take, drop, length-take, length-drop}
+use lib.Seq.{take-all, drop-drop}
+use native.Mathlib.Decide.{decLt}
 use native.Mathlib.Omega.{arith}
 use Rattle.bytes.specs.Bytes.{indexOf, indexAfter}
 
@@ -63,6 +64,11 @@ split-some mark (byte ∷ rest) h = go (eqb byte mark) h (split-some mark rest)
     go true less below = refl
     go false less below = ap (onto byte) (below (omega arith))
 
+-- the place of the first separator from a place on, or the end
+pub record Sought (s : List ℕ) (from mark place : ℕ) : Type 0 where
+  pub first : place ≡ from + indexOf mark (drop from s)
+  pub within : place ≤ length s
+
 -- ---- what the test of two byte strings says
 
 pub same-equal : (s t : List ℕ) → sameBytes s t ≡ true → s ≡ t
@@ -91,3 +97,76 @@ same-answer s t false only if = go (sameBytes s t) refl
 -- a part that goes to the end is what is left from its start on
 pub part-rest {ℓ} : {A : Type ℓ} (at : ℕ) (s : List A) → take (length s - at) (drop at s) ≡ drop at s
 part-rest at s = take-all (length s - at) (drop at s) (omega (arith, length-drop at s))
+
+-- ---- the pieces of what is left, from the place that a search finds
+
+-- none is found: what is left is one piece
+pub sought-none : (s : List ℕ) (from mark place : ℕ) → from ≤ length s → Sought s from mark place → length s ≤ place → split mark (drop from s) ≡ drop from s ∷ []
+sought-none s from mark place start sought end = split-none mark (drop from s) (omega (arith, length-drop from s, sought .first))
+
+-- one is found: the bytes up to it, then the pieces of what follows it
+pub sought-some : (s : List ℕ) (from mark place : ℕ) → Sought s from mark place → place < length s
+    → split mark (drop from s) ≡ take (place - from) (drop from s) ∷ split mark (drop (place + 1) s)
+sought-some s from mark place sought here =
+    let width : place - from ≡ indexOf mark (drop from s) = omega (arith, sought .first) in
+    let on : from + suc (indexOf mark (drop from s)) ≡ place + 1 = omega (arith, sought .first) in
+    split-some mark (drop from s) (omega (arith, length-drop from s, sought .first))
+    ∙ ap₂ (λ (k : ℕ) (rest : List ℕ). take k (drop from s) ∷ split mark rest) (sym width) (drop-drop (suc (indexOf mark (drop from s))) from s ∙ ap (λ (k : ℕ). drop k s) on)
+
+-- the same where it is found at the end: the bytes up to there, and no more pieces
+pub sought-last : (s : List ℕ) (from mark place : ℕ) → from ≤ length s → Sought s from mark place → place ≡ length s → split mark (drop from s) ≡ take (place - from) (drop from s) ∷ []
+sought-last s from mark place start sought end =
+    sought-none s from mark place start sought (omega arith) ∙ ap (λ (p : List ℕ). p ∷ []) (sym (ap (λ (k : ℕ). take (k - from) (drop from s)) end ∙ part-rest from s))
+
+-- found or not: the bytes up to the place are the first piece
+pub record Cut (s : List ℕ) (from mark place : ℕ) : Type 0 where
+  pub rest : List (List ℕ)
+  pub pieces : split mark (drop from s) ≡ take (place - from) (drop from s) ∷ rest
+
+pub sought-cut : (s : List ℕ) (from mark place : ℕ) → from ≤ length s → Sought s from mark place → Cut s from mark place
+sought-cut s from mark place start sought = go (decLt place (length s))
+  where
+    go : Dec (place < length s) → Cut s from mark place
+    go (yes less) = record { rest = split mark (drop (place + 1) s); pieces = sought-some s from mark place sought less }
+    go (no end) = record { rest = []; pieces = sought-last s from mark place start sought (omega (arith, sought .within)) }
+
+-- ---- piece after piece
+
+-- the bytes from one place to another
+abbrev pub part : List ℕ → ℕ → ℕ → List ℕ
+part s from to = take (to - from) (drop from s)
+
+-- the pieces passed, and those of what is left
+pub record Passed (mark : ℕ) (s : List ℕ) (done : List (List ℕ)) (from : ℕ) : Type 0 where
+  pub pieces : split mark s ≡ done ++ split mark (drop from s)
+  pub within : from ≤ length s
+
+pub passed-none : (mark : ℕ) (s : List ℕ) → Passed mark s [] 0
+passed-none mark s = record { pieces = refl; within = zero-le }
+
+-- one more, and the last one
+pub passed-next : (mark : ℕ) (s : List ℕ) (done : List (List ℕ)) (from place : ℕ) → Passed mark s done from → Sought s from mark place → place < length s
+    → Passed mark s (done ++ (part s from place ∷ [])) (place + 1)
+passed-next mark s done from place passed sought here = record {
+  pieces = passed .pieces ∙ ap (λ (ps : List (List ℕ)). done ++ ps) (sought-some s from mark place sought here) ∙ sym (append-assoc done (part s from place ∷ []) (split mark (drop (place + 1) s)));
+  within = omega arith
+}
+
+pub passed-last : (mark : ℕ) (s : List ℕ) (done : List (List ℕ)) (from place : ℕ) → Passed mark s done from → Sought s from mark place → place ≡ length s
+    → split mark s ≡ done ++ (part s from place ∷ [])
+passed-last mark s done from place passed sought end = passed .pieces ∙ ap (λ (ps : List (List ℕ)). done ++ ps) (sought-last s from mark place (passed .within) sought end)
+
+-- there is always a piece
+pub split-piece : (mark : ℕ) (s : List ℕ) → (first : List ℕ) × (rest : List (List ℕ)) × (split mark s ≡ first ∷ rest)
+unfolding split onto
+split-piece mark [] = ([], [], refl)
+split-piece mark (byte ∷ s) = go (eqb byte mark) (split mark s)
+  where
+    go : (t : Bool) (pieces : List (List ℕ)) → (first : List ℕ) × (rest : List (List ℕ)) × (cond t ([] ∷ pieces) (onto byte pieces) ≡ first ∷ rest)
+    go true pieces = ([], pieces, refl)
+    go false [] = (byte ∷ [], [], refl)
+    go false (p ∷ pieces) = (byte ∷ p, pieces, refl)
+
+-- a part is no longer than the whole
+pub part-short : (s : List ℕ) (from to : ℕ) {most : ℕ} → length s ≤ most → length (part s from to) ≤ most
+part-short s from to fits = omega (arith, length-take (to - from) (drop from s), length-drop from s)

@@ -4,7 +4,7 @@ ghost use Prim.Native.Nat.{_+_, _*_, _≤_, _<_};
 ghost use lib.ListN.{length, take, drop};
 ghost use Rattle.text.specs.Forms.{isName, isLabel, nameByte, numberOf, bytes};
 ghost use Rattle.text.specs.Names.{value, packed, sameName, placeOf, rowOf, rows};
-ghost use Rattle.text.specs.Pieces.{sameBytes};
+ghost use Rattle.text.specs.Pieces.{sameBytes, Sought};
 
 // A name of at most 32 bytes, eight to a word, the first lowest, and zeros past its end.
 pub struct Name {
@@ -12,6 +12,14 @@ pub struct Name {
     pub second: u64,
     pub third: u64,
     pub fourth: u64,
+}
+
+// The place of the first `mark` from a place on, or the end where there is none.
+pub fn seek(s: &[u8], from: usize, mark: u8) -> usize
+    requires { ⌜ from ≤ length (now s) ⌝ }
+    ensures { λ r. ⌜ Sought (now (s .entry)) from mark r ⌝ }
+{
+    bytes::scan::find(s, from, s.len(), mark)
 }
 
 // Whether two byte strings are the same.
