@@ -125,6 +125,7 @@ fault-none names field {N} is one two = go (isName field) (isDeclared names fiel
   where
     found : N .fault ≡ faultOf (isName field) (isDeclared names field)
     found = ap (λ (n : NameRead). n .fault) is
+
     go : (f d : Bool) → isName field ≡ f → isDeclared names field ≡ d → (isName field ≡ true) × (isDeclared names field ≡ true)
     go true true p q = (p, q)
     go true false p q = absurd (one (found ∙ ap₂ faultOf p q))

@@ -4,4 +4,5 @@ pub mod Fields
 pub mod Sets
 pub mod Lines
 pub mod Policy
+pub mod Reached
 pub mod Worked

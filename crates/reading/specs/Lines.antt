@@ -1,8 +1,10 @@
 -- One line of a policy: its kind, and when it is malformed, above a limit or names what is undeclared (document 01, "The texts").
-use Prim.Native.Nat.{ℕ, zero, suc, max}
+use Prim.Native.Nat.{ℕ, zero, suc, _<_, max}
 use mathlib.Core.Bool.{Bool, true, false, cond, not, _&&_, and-eq-true-iff}
 use mathlib.Core.List.{List, [], _∷_}
-use mathlib.Core.Path.{_≡_, refl, sym, ap, ap₂, _∙_}
+use mathlib.Core.Path.{_≡_, refl, sym, ap, ap₂, subst, _∙_}
+use borrow.Author.Tests.{ltb-true}
+use native.Mathlib.Omega.{arith}
 use lib.Dec.{leb, ltb, eqb}
 use lib.ListN.{length}
 use Rattle.roles.specs.Sets.{emptySet}
@@ -193,10 +195,13 @@ assign-judged c roles users admin positive negative target {A} {T} {P} {N} {firs
   where
     left : first ≡ faultOf (isName admin && isSet positive) (isDeclared roles admin && allDeclared roles positive)
     left = one ∙ ap₂ max (name-fault roles admin hA) (set-fault roles positive hP) ∙ worse (isName admin) (isDeclared roles admin) (isSet positive) (allDeclared roles positive)
+
     right : second ≡ faultOf (isSet negative && isName target) (allDeclared roles negative && isDeclared roles target)
     right = two ∙ ap₂ max (set-fault roles negative hN) (name-fault roles target hT) ∙ worse (isSet negative) (allDeclared roles negative) (isName target) (isDeclared roles target)
+
     all : fault ≡ faultOf (isName admin && isSet positive && (isSet negative && isName target)) (isDeclared roles admin && allDeclared roles positive && (allDeclared roles negative && isDeclared roles target))
     all = worst ∙ ap₂ max left right ∙ worse (isName admin && isSet positive) (isDeclared roles admin && allDeclared roles positive) (isSet negative && isName target) (allDeclared roles negative && isDeclared roles target)
+
     same : (isName admin && isSet positive && (isSet negative && isName target)) ≡ true → (isDeclared roles admin && allDeclared roles positive && (allDeclared roles negative && isDeclared roles target)) ≡ true
         → Entry.Assign (record { admin = A .place; positive = P .roles; negative = N .roles; target = T .place })
         ≡ Entry.Assign (record { admin = placed roles admin; positive = rolesOf roles positive; negative = rolesOf roles negative; target = placed roles target })
@@ -288,3 +293,44 @@ line-two line fields = sym (ap lineOf fields)
 pub line-three : (line : List ℕ) {w a b : List ℕ} → split 9 line ≡ w ∷ a ∷ b ∷ [] → threeFields w a b ≡ lineOf (split 9 line)
 unfolding lineOf
 line-three line fields = sym (ap lineOf fields)
+
+-- ---- what a good line's entry fits
+
+-- There is room for the entry, and a holding's user is declared.
+abbrev pub Fitting : Counts → Entry → Type 0
+Fitting c Entry.Header = Unit {0}
+Fitting c (Entry.Role name) = c .roles < 128
+Fitting c (Entry.User name clearance) = c .users < 64
+Fitting c (Entry.Has holder held) = holder < c .users
+Fitting c (Entry.Assign rule) = c .assigns < 256
+Fitting c (Entry.Revoke rule) = c .revokes < 256
+Fitting c (Entry.Goal set) = c .goals < 32
+Fitting c Entry.End = Unit {0}
+
+entry-fits : (c : Counts) (roles users : List Name) → length users ≡ c .users → (line : Line) → withinLimit c line ≡ true → declared roles users line ≡ true → Fitting c (entry roles users line)
+unfolding withinLimit declared entry isDeclared
+entry-fits c roles users many (header edition) room known = tt
+entry-fits c roles users many (role name) room known = ltb-true (c .roles) 128 room
+entry-fits c roles users many (user name clearance) room known = ltb-true (c .users) 64 room
+entry-fits c roles users many (has holder held) room known =
+    let here = ltb-true (placed users holder) (length users) (and-eq-true-iff (isDeclared users holder) (isDeclared roles held) .0 known .0) in
+    omega (arith, here, many)
+entry-fits c roles users many (assign admin positive negative target) room known = ltb-true (c .assigns) 256 room
+entry-fits c roles users many (revoke admin target) room known = ltb-true (c .revokes) 256 room
+entry-fits c roles users many (goal set) room known = ltb-true (c .goals) 32 room
+entry-fits c roles users many end room known = tt
+entry-fits c roles users many other room known = tt
+
+-- what a good answer says of the three tests
+good-turn : (formed limited known : Bool) (e e′ : Entry) → inTurn formed limited known e ≡ PolicyLine.Good e′ → (limited ≡ true) × (known ≡ true) × (e ≡ e′)
+unfolding inTurn
+good-turn true true true e e′ good = (refl, refl, cc)
+good-turn true true false e e′ good = absurd (let z : _≡_ {A = ℕ} 0 1 = cc in omega arith)
+good-turn true false known e e′ good = absurd (let z : _≡_ {A = ℕ} 0 1 = cc in omega arith)
+good-turn false limited known e e′ good = absurd (let z : _≡_ {A = ℕ} 0 1 = cc in omega arith)
+
+pub good-fits : (c : Counts) (roles users : List Name) (line : List ℕ) {e : Entry} → length users ≡ c .users → policyLine c roles users line ≡ PolicyLine.Good e → Fitting c e
+unfolding policyLine judged
+good-fits c roles users line {e} many good =
+    let told = good-turn (wellFormed c roles users (lineOf (split 9 line))) (withinLimit c (lineOf (split 9 line))) (declared roles users (lineOf (split 9 line))) (entry roles users (lineOf (split 9 line))) e good in
+    subst (Fitting c) (told .2) (entry-fits c roles users many (lineOf (split 9 line)) (told .0) (told .1))

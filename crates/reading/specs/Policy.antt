@@ -40,32 +40,73 @@ countsOf s = record {
   users = length (s .users);
   assigns = length (s .assigns);
   revokes = length (s .revokes);
-  goals = length (s .goals)
+  goals = length (s .goals);
 }
 
 -- one entry more, at the end of its kind
 unfoldable pub added : Said → Entry → Said
 added s Entry.Header = record {
-  stage = 1; roles = s .roles; users = s .users; holdings = s .holdings; assigns = s .assigns; revokes = s .revokes; goals = s .goals
+  stage = 1;
+  roles = s .roles;
+  users = s .users;
+  holdings = s .holdings;
+  assigns = s .assigns;
+  revokes = s .revokes;
+  goals = s .goals;
 }
 added s (Entry.Role name) = record {
-  stage = 1; roles = s .roles ++ (name ∷ []); users = s .users; holdings = s .holdings; assigns = s .assigns; revokes = s .revokes; goals = s .goals
+  stage = 1;
+  roles = s .roles ++ (name ∷ []);
+  users = s .users;
+  holdings = s .holdings;
+  assigns = s .assigns;
+  revokes = s .revokes;
+  goals = s .goals;
 }
 added s (Entry.User name clearance) = record {
-  stage = 2; roles = s .roles; users = s .users ++ (name ∷ []); holdings = s .holdings ++ (record { clearance = clearance; roles = emptySet } ∷ []);
-  assigns = s .assigns; revokes = s .revokes; goals = s .goals
+  stage = 2;
+  roles = s .roles;
+  users = s .users ++ (name ∷ []);
+  holdings = s .holdings ++ (record { clearance = clearance; roles = emptySet } ∷ []);
+  assigns = s .assigns;
+  revokes = s .revokes;
+  goals = s .goals;
 }
 added s (Entry.Has user role) = record {
-  stage = 3; roles = s .roles; users = s .users; holdings = granted (s .holdings) user role; assigns = s .assigns; revokes = s .revokes; goals = s .goals
+  stage = 3;
+  roles = s .roles;
+  users = s .users;
+  holdings = granted (s .holdings) user role;
+  assigns = s .assigns;
+  revokes = s .revokes;
+  goals = s .goals;
 }
 added s (Entry.Assign rule) = record {
-  stage = 4; roles = s .roles; users = s .users; holdings = s .holdings; assigns = s .assigns ++ (rule ∷ []); revokes = s .revokes; goals = s .goals
+  stage = 4;
+  roles = s .roles;
+  users = s .users;
+  holdings = s .holdings;
+  assigns = s .assigns ++ (rule ∷ []);
+  revokes = s .revokes;
+  goals = s .goals;
 }
 added s (Entry.Revoke rule) = record {
-  stage = 5; roles = s .roles; users = s .users; holdings = s .holdings; assigns = s .assigns; revokes = s .revokes ++ (rule ∷ []); goals = s .goals
+  stage = 5;
+  roles = s .roles;
+  users = s .users;
+  holdings = s .holdings;
+  assigns = s .assigns;
+  revokes = s .revokes ++ (rule ∷ []);
+  goals = s .goals;
 }
 added s (Entry.Goal goal) = record {
-  stage = 6; roles = s .roles; users = s .users; holdings = s .holdings; assigns = s .assigns; revokes = s .revokes; goals = s .goals ++ (goal ∷ [])
+  stage = 6;
+  roles = s .roles;
+  users = s .users;
+  holdings = s .holdings;
+  assigns = s .assigns;
+  revokes = s .revokes;
+  goals = s .goals ++ (goal ∷ []);
 }
 added s Entry.End = s
 
@@ -79,6 +120,11 @@ entered s (Entry.Assign rule) = goes (added s (Entry.Assign rule))
 entered s (Entry.Revoke rule) = goes (added s (Entry.Revoke rule))
 entered s (Entry.Goal goal) = goes (added s (Entry.Goal goal))
 entered s Entry.End = ends
+
+-- the refusal's number of a line that is not good
+unfoldable pub codeOf : PolicyLine → ℕ
+codeOf (PolicyLine.Good e) = 0
+codeOf (PolicyLine.Bad number) = number
 
 unfoldable pub answered : Said → PolicyLine → Judged Said
 answered s (PolicyLine.Good e) = entered s e
@@ -103,16 +149,19 @@ noAssign = record { admin = 0; positive = emptySet; negative = emptySet; target 
 unfoldable pub noRevoke : Revoke
 noRevoke = record { admin = 0; target = 0 }
 
-unfoldable pub laidOut : Said → Policy
-laidOut s = record {
+unfoldable pub laidWith : Counts → Said → Policy
+laidWith counts s = record {
   roles = padded 512 0 (wordsOf (s .roles));
-  users = padded 256 0 (wordsOf (s .users));
+  users = padded 512 0 (wordsOf (s .users));
   persons = padded 64 nobody (s .holdings);
   assigns = padded 256 noAssign (s .assigns);
   revokes = padded 256 noRevoke (s .revokes);
   goals = padded 32 emptySet (s .goals);
-  counts = countsOf s
+  counts = counts;
 }
+
+unfoldable pub laidOut : Said → Policy
+laidOut s = laidWith (countsOf s) s
 
 -- a refused text gives the policy of nothing
 unfoldable pub refusedPolicy : (number line : ℕ) → PolicyRead

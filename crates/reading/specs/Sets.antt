@@ -46,6 +46,7 @@ role-among names few p form known roles (q ∷ done) forms knowns =
     group : (a b c : Bool) → ((a || b) || c) ≡ (a || (b || c))
     group true b c = refl
     group false b c = refl
+
     place-below : (ns : List Name) → length ns ≤ 128 → (x : List ℕ) → isDeclared ns x ≡ true → placed ns x < 128
     place-below ns h x k = omega (arith, ltb-true (placed ns x) (length ns) k)
 
@@ -100,21 +101,21 @@ module _ (names : List Name) (field : List ℕ) (plain : sameBytes field (bytes 
   unfolding setRead faultOf malformedSet
   set-malformed bad = λ i. record {
     fault = sym (ap (λ (f : Bool). cond f (cond (allDeclared names field) 0 1) 2) bad) i;
-    roles = sym (ap (λ (f : Bool). cond (f && allDeclared names field) (rolesOf names field) emptySet) bad) i
+    roles = sym (ap (λ (f : Bool). cond (f && allDeclared names field) (rolesOf names field) emptySet) bad) i;
   }
 
   pub set-undeclared : allDeclared names field ≡ false → undeclaredSet field ≡ setRead names field
   unfolding setRead faultOf undeclaredSet
   set-undeclared bad = λ i. record {
     fault = sym (ap (λ (d : Bool). cond (isSet field) (cond d 0 1) 2) bad) i;
-    roles = sym (ap (λ (b : Bool). cond b (rolesOf names field) emptySet) (ap (λ (d : Bool). isSet field && d) bad ∙ and-false (isSet field))) i
+    roles = sym (ap (λ (b : Bool). cond b (rolesOf names field) emptySet) (ap (λ (d : Bool). isSet field && d) bad ∙ and-false (isSet field))) i;
   }
 
   set-good : (roles : RoleSet) → isSet field ≡ true → allDeclared names field ≡ true → roles ≡ rolesOf names field → record { fault = 0; roles = roles } ≡ setRead names field
   unfolding setRead faultOf
   set-good roles formed known are = λ i. record {
     fault = sym (ap₂ (λ (f d : Bool). cond f (cond d 0 1) 2) formed known) i;
-    roles = (are ∙ sym (ap₂ (λ (f d : Bool). cond (f && d) (rolesOf names field) emptySet) formed known)) i
+    roles = (are ∙ sym (ap₂ (λ (f d : Bool). cond (f && d) (rolesOf names field) emptySet) formed known)) i;
   }
 
   module _ (few : length names ≤ 128) {at : ℕ} {roles : RoleSet} (walked : Walked names field at roles) (p : List ℕ) (rest : List (List ℕ)) (cut : split 44 (drop at field) ≡ p ∷ rest) where
@@ -167,7 +168,7 @@ module _ (names : List Name) (field : List ℕ) (plain : sameBytes field (bytes 
           formed = formed-more;
           known = known-more;
           single = single-more;
-          are = are-more
+          are = are-more;
         }
 
         pub walk-last : rest ≡ [] → record { fault = 0; roles = withOf roles (placed names p) } ≡ setRead names field

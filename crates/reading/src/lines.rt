@@ -93,7 +93,10 @@ fn user_line(name: &[u8], clearance: &[u8], users: &[u64], c: Counts) -> PolicyL
     let packed = text::pack(name);
     let count = c.users;
     let place = text::find(users, count, packed);
-    let formed = in_order(c.stage, 2) & text::is_name(name) & text::is_label(clearance) & (count <= place);
+    let formed = in_order(c.stage, 2)
+        & text::is_name(name)
+        & text::is_label(clearance)
+        & (count <= place);
     let high = text::same(clearance, b"H");
     in_turn(formed, count < 64, true, Entry::User(packed, high))
 }
@@ -127,7 +130,14 @@ fn revoke_line(admin: &[u8], target: &[u8], roles: &[u64], c: Counts) -> PolicyL
 }
 
 // An assign line: declared roles and sets of declared roles.
-fn assign_line(admin: &[u8], positive: &[u8], negative: &[u8], target: &[u8], roles: &[u64], c: Counts) -> PolicyLine
+fn assign_line(
+    admin: &[u8],
+    positive: &[u8],
+    negative: &[u8],
+    target: &[u8],
+    roles: &[u64],
+    c: Counts,
+) -> PolicyLine
     requires { ⌜ (length (now positive) ≤ 32768) × (length (now negative) ≤ 32768) × (4 * c .roles ≤ length (now roles)) × (c .roles ≤ 128) ⌝ }
     ensures { λ r. ⌜ ((users : List Name) → r ≡ judged c (rows (c .roles) (now (roles .entry))) users (Line.assign (now (admin .entry)) (now (positive .entry)) (now (negative .entry)) (now (target .entry)))) ⌝ }
 {
@@ -159,7 +169,12 @@ fn goal_line(set: &[u8], roles: &[u64], c: Counts) -> PolicyLine
     let fault = s.fault;
     let ordered = in_order(c.stage, 6) & !text::same(set, b"-");
     let held = s.roles;
-    in_turn(ordered & (fault < 2), c.goals < 32, fault == 0, Entry::Goal(held))
+    in_turn(
+        ordered & (fault < 2),
+        c.goals < 32,
+        fault == 0,
+        Entry::Goal(held),
+    )
 }
 
 // A line of one field: `end` after a goal.
@@ -188,7 +203,14 @@ fn two_fields(word: &[u8], field: &[u8], roles: &[u64], c: Counts) -> PolicyLine
 }
 
 // A line of three fields: a holding, a revoke rule or a user.
-fn three_fields(word: &[u8], first: &[u8], second: &[u8], roles: &[u64], users: &[u64], c: Counts) -> PolicyLine
+fn three_fields(
+    word: &[u8],
+    first: &[u8],
+    second: &[u8],
+    roles: &[u64],
+    users: &[u64],
+    c: Counts,
+) -> PolicyLine
     requires { ⌜ (4 * c .roles ≤ length (now roles)) × (4 * c .users ≤ length (now users)) ⌝ }
     ensures { λ r. ⌜ r ≡ judged c (rows (c .roles) (now (roles .entry))) (rows (c .users) (now (users .entry))) (threeFields (now (word .entry)) (now (first .entry)) (now (second .entry))) ⌝ }
 {
@@ -205,7 +227,7 @@ fn three_fields(word: &[u8], first: &[u8], second: &[u8], roles: &[u64], users: 
 }
 
 // One line of a policy, without its LF, judged on its own bytes and on the names and counts of the lines above.
-pub fn read_line(line: &[u8], roles: &[u64], users: &[u64], c: Counts) -> PolicyLine
+pub fn read_line<'a>(line: &[u8], roles: &'a [u64], users: &'a [u64], c: Counts) -> PolicyLine
     requires { ⌜ (length (now line) ≤ 32768) × (4 * c .roles ≤ length (now roles)) × (4 * c .users ≤ length (now users)) × (c .roles ≤ 128) ⌝ }
     ensures { λ r. ⌜ r ≡ policyLine c (rows (c .roles) (now (roles .entry))) (rows (c .users) (now (users .entry))) (now (line .entry)) ⌝ }
 {

@@ -1,7 +1,6 @@
 // A whole policy text, read line by line into arrays.
 ghost use mathlib.Core.Path.{_≡_};
-ghost use Rattle.reading.specs.Policy.{laidOut, nothing, refusedPolicy, policyRead};
-ghost use Rattle.reading.specs.Texts.{readText};
+ghost use Rattle.reading.specs.Policy.{laidOut, nothing, codeOf, refusedPolicy, policyRead};
 use crate::lines::Counts;
 use crate::lines::Entry;
 use crate::lines::PolicyLine;
@@ -11,11 +10,11 @@ use model::Person;
 use model::Revoke;
 use roles::RoleSet;
 
-// A policy: four words for each role name and each user name, each user's clearance and roles, the rules and the goals, with
-// zeros past their counts.
+// A policy: tables of the role names and the user names, each user's clearance and roles, the rules and the goals, with zeros
+// past their counts.
 pub struct Policy {
     pub roles: [u64; 512],
-    pub users: [u64; 256],
+    pub users: [u64; 512],
     pub persons: [Person; 64],
     pub assigns: [Assign; 256],
     pub revokes: [Revoke; 256],
@@ -37,7 +36,7 @@ fn no_policy() -> Policy
     let none = RoleSet::empty();
     Policy {
         roles: [0; 512],
-        users: [0; 256],
+        users: [0; 512],
         persons: [Person {
             clearance: false,
             roles: none,
@@ -74,4 +73,103 @@ fn refused(refusal: u64, line: usize) -> PolicyRead
         line,
         policy,
     }
+}
+
+// The refusal's number of a line that is not good.
+fn code(answer: PolicyLine) -> u64
+    ensures { λ r. ⌜ r ≡ codeOf answer ⌝ }
+{
+    match answer {
+        PolicyLine::Good(_) => 0,
+        PolicyLine::Bad(number) => number,
+    }
+}
+
+// A policy text. The first bad line decides the refusal.
+pub fn read_policy(text: &[u8]) -> PolicyRead
+    ensures { λ r. ⌜ r ≡ policyRead (now (text .entry)) ⌝ }
+{
+    let end = text.len();
+    if 32768 < end {
+        return refused(10, 0);
+    }
+    let mut p = no_policy();
+    let mut c = p.counts;
+    let mut at = 0;
+    let mut number = 1;
+    while at < end {
+        let stop = text::seek(text, at, b'\n');
+        if stop == end {
+            return refused(11, number);
+        }
+        let answer = read_line(&text[at..stop], &p.roles, &p.users, c);
+        let here = number;
+        at = stop + 1;
+        number += 1;
+        let PolicyLine::Good(entry) = answer else {
+            return refused(code(answer), here);
+        };
+        match entry {
+            Entry::Header => {
+                c.stage = 1;
+            }
+            Entry::Role(name) => {
+                text::store(&mut p.roles, c.roles, name);
+                c.roles += 1;
+                c.stage = 1;
+            }
+            Entry::User(name, clearance) => {
+                let user = c.users;
+                text::store(&mut p.users, user, name);
+                p.persons[user] = Person {
+                    clearance,
+                    roles: RoleSet::empty(),
+                };
+                c.users += 1;
+                c.stage = 2;
+            }
+            Entry::Has(user, role) => {
+                let person = p.persons[user];
+                let held = person.roles;
+                if held.has(role) {
+                    return refused(11, here);
+                }
+                p.persons[user] = Person {
+                    clearance: person.clearance,
+                    roles: held.with(role),
+                };
+                c.stage = 3;
+            }
+            Entry::Assign(rule) => {
+                let next = c.assigns;
+                p.assigns[next] = rule;
+                c.assigns += 1;
+                c.stage = 4;
+            }
+            Entry::Revoke(rule) => {
+                let next = c.revokes;
+                p.revokes[next] = rule;
+                c.revokes += 1;
+                c.stage = 5;
+            }
+            Entry::Goal(goal) => {
+                let next = c.goals;
+                p.goals[next] = goal;
+                c.goals += 1;
+                c.stage = 6;
+            }
+            Entry::End => {
+                if at < end {
+                    return refused(11, number);
+                }
+                p.counts = c;
+                return PolicyRead {
+                    refusal: 0,
+                    line: 0,
+                    policy: p,
+                };
+            }
+        }
+    }
+    refused(11, number)
 }

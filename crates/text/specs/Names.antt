@@ -5,7 +5,7 @@ use mathlib.Core.List.{List, [], _∷_, _++_}
 use mathlib.Core.Path.{_≡_, refl, sym, ap, ap₂, _∙_}
 use borrow.Author.Tests.{leb-true, eqb-true}
 use lib.Dec.{eqb, leb, lit≤}
-use lib.ListN.{length, getD, take, drop, drop-of-length-le, take-append-drop}
+use lib.ListN.{length, getD, set, take, drop, drop-of-length-le, take-append-drop}
 use lib.Seq.{drop-cons, drop-drop}
 use native.Mathlib.Nat.{add-zero, pow-suc, pow-le-pow-right}
 use native.Mathlib.Numerals.{add-one}
@@ -44,6 +44,11 @@ rowOf table = record { first = getD table 0 0; second = getD table 1 0; third = 
 unfoldable pub rows : ℕ → List ℕ → List Name
 rows zero table = []
 rows (suc count) table = rowOf table ∷ rows count (drop 4 table)
+
+-- a table with a name's words at a place
+unfoldable pub stored : List ℕ → ℕ → Name → List ℕ
+stored table place name =
+    set (set (set (set table (4 * place) (name .first)) (4 * place + 1) (name .second)) (4 * place + 2) (name .third)) (4 * place + 3) (name .fourth)
 
 -- ---- packing eight bytes, the last first
 
@@ -176,7 +181,7 @@ same-words m n h =
       first = eqb-true (m .first) (n .first) (one .0) i;
       second = eqb-true (m .second) (n .second) (one .1) i;
       third = eqb-true (m .third) (n .third) (two .1) i;
-      fourth = eqb-true (m .fourth) (n .fourth) (three .1) i
+      fourth = eqb-true (m .fourth) (n .fourth) (three .1) i;
     }
 
 -- two names at one place of a table are the same

@@ -149,7 +149,7 @@ pub passed-next : (mark : ℕ) (s : List ℕ) (done : List (List ℕ)) (from pla
     → Passed mark s (done ++ (part s from place ∷ [])) (place + 1)
 passed-next mark s done from place passed sought here = record {
   pieces = passed .pieces ∙ ap (λ (ps : List (List ℕ)). done ++ ps) (sought-some s from mark place sought here) ∙ sym (append-assoc done (part s from place ∷ []) (split mark (drop (place + 1) s)));
-  within = omega arith
+  within = omega arith;
 }
 
 pub passed-last : (mark : ℕ) (s : List ℕ) (done : List (List ℕ)) (from place : ℕ) → Passed mark s done from → Sought s from mark place → place ≡ length s

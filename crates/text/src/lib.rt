@@ -3,7 +3,7 @@ ghost use mathlib.Core.Path.{_≡_};
 ghost use Prim.Native.Nat.{_+_, _*_, _≤_, _<_};
 ghost use lib.ListN.{length, take, drop};
 ghost use Rattle.text.specs.Forms.{isName, isLabel, nameByte, numberOf, bytes};
-ghost use Rattle.text.specs.Names.{value, packed, sameName, placeOf, rowOf, rows};
+ghost use Rattle.text.specs.Names.{value, packed, sameName, placeOf, rowOf, rows, stored};
 ghost use Rattle.text.specs.Pieces.{sameBytes, Sought};
 
 // A name of at most 32 bytes, eight to a word, the first lowest, and zeros past its end.
@@ -169,4 +169,16 @@ pub fn find(table: &[u64], count: usize, name: Name) -> usize
         place += 1;
     }
     place
+}
+
+// Puts a name at a place of a table that has room for 128 names.
+pub fn store(table: &mut [u64; 512], place: usize, name: Name)
+    requires { ⌜ place < 128 ⌝ }
+    ensures { λ r. ⌜ now (table .exit) ≡ stored (now (table .entry)) place name ⌝ }
+{
+    let at = 4 * place;
+    table[at] = name.first;
+    table[at + 1] = name.second;
+    table[at + 2] = name.third;
+    table[at + 3] = name.fourth;
 }
