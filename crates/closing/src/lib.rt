@@ -11,8 +11,8 @@ pub struct Pair {
     pub absent: RoleSet,
 }
 
-// How many roles a round goes through: there are at most 128.
-fn limited(roles: usize) -> usize
+// How many roles there are to go through: at most 128.
+pub fn limited(roles: usize) -> usize
     ensures { λ r. ⌜ r ≡ min roles 128 ⌝ }
 {
     if roles < 128 {
