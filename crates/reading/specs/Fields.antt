@@ -138,3 +138,17 @@ at-place names field is = ap (λ (n : NameRead). n .place) is
 -- no more than 128 names are looked up
 pub few-rows : (count : ℕ) (table : List ℕ) → count ≤ 128 → length (rows count table) ≤ 128
 few-rows count table few = omega (arith, rows-length count table)
+
+-- the roles of a set field that is well formed and declared
+pub roles-read : (names : List Name) (field : List ℕ) {S : SetRead} → S ≡ setRead names field → isSet field ≡ true → allDeclared names field ≡ true → S .roles ≡ rolesOf names field
+unfolding setRead
+roles-read names field is formed known =
+    ap (λ (s : SetRead). s .roles) is ∙ ap₂ (λ (f d : Bool). cond (f && d) (rolesOf names field) emptySet) formed known
+
+pub set-fault : (names : List Name) (field : List ℕ) {S : SetRead} → S ≡ setRead names field → S .fault ≡ faultOf (isSet field) (allDeclared names field)
+unfolding setRead
+set-fault names field is = ap (λ (s : SetRead). s .fault) is
+
+pub name-fault : (names : List Name) (field : List ℕ) {N : NameRead} → N ≡ nameRead names field → N .fault ≡ faultOf (isName field) (isDeclared names field)
+unfolding nameRead
+name-fault names field is = ap (λ (n : NameRead). n .fault) is

@@ -4,5 +4,6 @@ pub mod Fields
 pub mod Sets
 pub mod Lines
 pub mod Policy
+pub mod Walk
 pub mod Reached
 pub mod Worked

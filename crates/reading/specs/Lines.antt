@@ -17,7 +17,7 @@ use Rattle.reading.specs.declared.fields.SetRead.{SetRead}
 use Rattle.reading.specs.declared.lines.Counts.{Counts}
 use Rattle.reading.specs.declared.lines.Entry.{Entry}
 use Rattle.reading.specs.declared.lines.PolicyLine.{PolicyLine}
-use Rattle.reading.specs.Fields.{placed, isDeclared, allDeclared, rolesOf, faultOf, nameRead, setRead, worse, at-place}
+use Rattle.reading.specs.Fields.{placed, isDeclared, allDeclared, rolesOf, faultOf, nameRead, setRead, worse, at-place, roles-read, set-fault, name-fault}
 
 -- A line by its first field and the number of its fields.
 pub data Line : Type 0 where
@@ -158,20 +158,6 @@ revoke-judged c roles users admin target {A} {T} {fault} hA hT worst ordered giv
     given
     ∙ ap₂ (λ (o : Bool) (f : ℕ). inTurn (o && ltb f 2) (ltb (c .revokes) 256) (eqb f 0) (Entry.Revoke (record { admin = A .place; target = T .place }))) ordered (two-names roles roles admin target fault A T hA hT worst)
     ∙ by-fault (inOrder (c .stage) 5) (ltb (c .revokes) 256) _ _ _ _ (λ f k. ap₂ (λ (x y : NameRead). Entry.Revoke (record { admin = x .place; target = y .place })) hA hT)
-
--- the roles of a set field that is well formed and declared
-roles-read : (names : List Name) (field : List ℕ) {S : SetRead} → S ≡ setRead names field → isSet field ≡ true → allDeclared names field ≡ true → S .roles ≡ rolesOf names field
-unfolding setRead
-roles-read names field is formed known =
-    ap (λ (s : SetRead). s .roles) is ∙ ap₂ (λ (f d : Bool). cond (f && d) (rolesOf names field) emptySet) formed known
-
-set-fault : (names : List Name) (field : List ℕ) {S : SetRead} → S ≡ setRead names field → S .fault ≡ faultOf (isSet field) (allDeclared names field)
-unfolding setRead
-set-fault names field is = ap (λ (s : SetRead). s .fault) is
-
-name-fault : (names : List Name) (field : List ℕ) {N : NameRead} → N ≡ nameRead names field → N .fault ≡ faultOf (isName field) (isDeclared names field)
-unfolding nameRead
-name-fault names field is = ap (λ (n : NameRead). n .fault) is
 
 pub goal-judged : (c : Counts) (roles users : List Name) (set : List ℕ) {S : SetRead} {order dash : Bool} {answer : PolicyLine}
     → S ≡ setRead roles set → order ≡ inOrder (c .stage) 6 → dash ≡ sameBytes set (bytes "-")

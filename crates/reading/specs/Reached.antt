@@ -16,13 +16,14 @@ use Rattle.model.specs.declared.Person.{Person}
 use Rattle.model.specs.Policy.{State, nobody, person, holding, granted}
 use Rattle.text.specs.declared.Name.{Name}
 use Rattle.text.specs.Names.{wordsOf, rows, rows-laid, stored}
-use Rattle.text.specs.Pieces.{split, part, Sought, sought-some, sought-last}
+use Rattle.text.specs.Pieces.{part, Sought}
 use Rattle.reading.specs.declared.lines.Counts.{Counts}
 use Rattle.reading.specs.declared.lines.Entry.{Entry}
 use Rattle.reading.specs.declared.lines.PolicyLine.{PolicyLine}
 use Rattle.reading.specs.declared.policy.Policy.{Policy}
 use Rattle.reading.specs.declared.policy.PolicyRead.{PolicyRead}
-use Rattle.reading.specs.Texts.{Judged, goes, ends, bad, Reading, read, refused, readLines, onward, closing, lines-end, lines-next, onward-goes, onward-bad, onward-ends, closing-none, closing-some, text-fits}
+use Rattle.reading.specs.Texts.{Judged, goes, bad}
+use Rattle.reading.specs.Walk.{On, on-start, on-end, on-tail, on-bad, on-goes, on-last, on-more}
 use Rattle.reading.specs.Lines.{policyLine, Fitting, good-fits}
 use Rattle.reading.specs.Policy.{Said, nothing, countsOf, added, entered, answered, judgeLine, readPolicy, padded, noAssign, noRevoke, laidWith, laidOut, refusedPolicy, answerOf, policyRead}
 
@@ -144,22 +145,16 @@ pub record Reached (text : List ℕ) (at number : ℕ) (p : Policy) (c : Counts)
   pub counted : c ≡ countsOf said
   pub bounded : Bounded said
   -- the whole text gives what the lines from here on give
-  pub left : readPolicy text ≡ readLines judgeLine 11 said number (split 10 (drop at text))
-  pub within : at ≤ length text
-  pub short : length text ≤ 32768
-  pub numbered : number ≤ at + 1
+  pub on : On judgeLine 11 10 nothing text at number said
 
 pub reached-start : (text : List ℕ) {p : Policy} → length text ≤ 32768 → p ≡ laidOut nothing → Reached text 0 1 p (p .counts)
-unfolding readPolicy laidOut laidWith
+unfolding laidOut laidWith
 reached-start text {p} short blank = record {
   said = nothing;
   laid = blank;
   counted = ap (λ (q : Policy). q .counts) blank;
   bounded = bounded-nothing;
-  left = text-fits judgeLine 11 10 nothing text short;
-  within = zero-le;
-  short = short;
-  numbered = omega arith;
+  on = on-start judgeLine 11 10 nothing text short;
 }
 
 -- the tables are as long as their names ask
@@ -207,13 +202,13 @@ module _ {text : List ℕ} {at number : ℕ} {p : Policy} {c : Counts} (r : Reac
 
   -- no line is left, or one without LF
   pub reached-end : length text ≤ at → refusedPolicy 11 number ≡ policyRead text
-  unfolding policyRead answerOf split
-  reached-end past = sym (ap answerOf (r .left ∙ lines-end judgeLine 11 (r .said) number (ap (split 10) (drop-of-length-le text past))))
+  unfolding policyRead readPolicy answerOf
+  reached-end past = sym (ap answerOf (on-end judgeLine 11 10 nothing (r .on) past))
 
   module _ {stop : ℕ} (sought : Sought text at 10 stop) where
     pub reached-tail : stop ≡ length text → refusedPolicy 11 number ≡ policyRead text
-    unfolding policyRead answerOf
-    reached-tail last = sym (ap answerOf (r .left ∙ lines-end judgeLine 11 (r .said) number (sought-last text at 10 stop (r .within) sought last)))
+    unfolding policyRead readPolicy answerOf
+    reached-tail last = sym (ap answerOf (on-tail judgeLine 11 10 nothing (r .on) sought last))
 
     module _ (here : stop < length text) {answer : PolicyLine} (given : answer ≡ policyLine c (rows (c .roles) (p .roles)) (rows (c .users) (p .users)) (part text at stop)) where
       -- the line's answer, over what the lines above say
@@ -223,17 +218,14 @@ module _ {text : List ℕ} {at number : ℕ} {p : Policy} {c : Counts} (r : Reac
           ∙ ap₂ (λ (rs us : List Name). policyLine c rs us (part text at stop)) (table-names (r .said .roles) (c .roles) role-count role-table) (table-names (r .said .users) (c .users) user-count user-table)
           ∙ ap (λ (d : Counts). policyLine d (r .said .roles) (r .said .users) (part text at stop)) (r .counted)
 
-      onwards : readPolicy text ≡ onward judgeLine 11 (answered (r .said) answer) (r .said) number (split 10 (drop (stop + 1) text)) (λ t. readLines judgeLine 11 t (suc number) (split 10 (drop (stop + 1) text)))
+      judged-is : {judged : Judged Said} → answered (r .said) answer ≡ judged → judgeLine (r .said) (part text at stop) ≡ judged
       unfolding judgeLine
-      onwards =
-          r .left ∙ lines-next judgeLine 11 (r .said) number (drop (stop + 1) text) (sought-some text at 10 stop sought here)
-          ∙ ap (λ (a : PolicyLine). onward judgeLine 11 (answered (r .said) a) (r .said) number (split 10 (drop (stop + 1) text)) (λ t. readLines judgeLine 11 t (suc number) (split 10 (drop (stop + 1) text)))) (sym answer-said)
+      judged-is is = ap (answered (r .said)) (sym answer-said) ∙ is
 
       -- a line that is not good
       pub line-refused : {k : ℕ} → answer ≡ PolicyLine.Bad k → refusedPolicy k number ≡ policyRead text
-      unfolding policyRead answerOf answered
-      line-refused bad-line =
-          sym (ap answerOf (onwards ∙ onward-bad judgeLine 11 (r .said) number (split 10 (drop (stop + 1) text)) (λ t. readLines judgeLine 11 t (suc number) (split 10 (drop (stop + 1) text))) (ap (answered (r .said)) bad-line)))
+      unfolding policyRead readPolicy answerOf answered
+      line-refused bad-line = sym (ap answerOf (on-bad judgeLine 11 10 nothing (r .on) sought here (judged-is (ap (answered (r .said)) bad-line))))
 
       module _ {e : Entry} (good : answer ≡ PolicyLine.Good e) where
         -- there is room for the entry
@@ -245,9 +237,8 @@ module _ {text : List ℕ} {at number : ℕ} {p : Policy} {c : Counts} (r : Reac
 
         -- a holding that stands above already
         pub holding-repeated : entered (r .said) e ≡ bad 11 → refusedPolicy 11 number ≡ policyRead text
-        unfolding policyRead answerOf answered
-        holding-repeated twice =
-            sym (ap answerOf (onwards ∙ onward-bad judgeLine 11 (r .said) number (split 10 (drop (stop + 1) text)) (λ t. readLines judgeLine 11 t (suc number) (split 10 (drop (stop + 1) text))) (ap (answered (r .said)) good ∙ twice)))
+        unfolding policyRead readPolicy answerOf answered
+        holding-repeated twice = sym (ap answerOf (on-bad judgeLine 11 10 nothing (r .on) sought here (judged-is (ap (answered (r .said)) good ∙ twice))))
 
         -- an entry that is added
         pub line-added : {p′ : Policy} {c′ : Counts} → entered (r .said) e ≡ goes (added (r .said) e) → p′ ≡ laidWith (countsOf nothing) (added (r .said) e) → c′ ≡ countsOf (added (r .said) e)
@@ -258,31 +249,20 @@ module _ {text : List ℕ} {at number : ℕ} {p : Policy} {c : Counts} (r : Reac
           laid = laid′;
           counted = counted′;
           bounded = bounded-added (r .said) e (r .bounded) (subst (λ (d : Counts). Fitting d e) (r .counted) fits-here);
-          left =
-              onwards ∙ onward-goes judgeLine 11 (r .said) number (split 10 (drop (stop + 1) text)) (λ t. readLines judgeLine 11 t (suc number) (split 10 (drop (stop + 1) text))) (ap (answered (r .said)) good ∙ enters)
-              ∙ ap (λ (n : ℕ). readLines judgeLine 11 (added (r .said) e) n (split 10 (drop (stop + 1) text))) (sym (add-one number));
-          within = omega arith;
-          short = r .short;
-          numbered = omega (arith, sought .first, r .numbered);
+          on = on-goes judgeLine 11 10 nothing (r .on) sought here (judged-is (ap (answered (r .said)) good ∙ enters));
         }
 
       -- the last line, and bytes after it
       module _ (ending : answer ≡ PolicyLine.Good Entry.End) where
-        closed : readPolicy text ≡ closing judgeLine 11 (r .said) (suc number) (split 10 (drop (stop + 1) text))
-        unfolding answered entered
-        closed = onwards ∙ onward-ends judgeLine 11 (r .said) number (split 10 (drop (stop + 1) text)) (λ t. readLines judgeLine 11 t (suc number) (split 10 (drop (stop + 1) text))) (ap (answered (r .said)) ending)
-
         pub line-last : {p′ : Policy} → length text ≤ stop + 1 → p′ ≡ laidOut (r .said) → record { refusal = 0; line = 0; policy = p′ } ≡ policyRead text
-        unfolding policyRead answerOf
+        unfolding policyRead readPolicy answerOf answered entered
         line-last all is =
-            let none : length (drop (stop + 1) text) ≡ 0 = omega (arith, length-drop (stop + 1) text) in
-            (λ i. record { refusal = 0; line = 0; policy = is i }) ∙ sym (ap answerOf (closed ∙ closing-none judgeLine 11 (r .said) (suc number) (drop (stop + 1) text) none))
+            (λ i. record { refusal = 0; line = 0; policy = is i })
+            ∙ sym (ap answerOf (on-last judgeLine 11 10 nothing (r .on) sought here (judged-is (ap (answered (r .said)) ending)) all))
 
         pub line-more : stop + 1 < length text → refusedPolicy 11 (number + 1) ≡ policyRead text
-        unfolding policyRead answerOf
-        line-more bytes-left =
-            let some : 0 < length (drop (stop + 1) text) = omega (arith, length-drop (stop + 1) text) in
-            sym (ap answerOf (closed ∙ closing-some judgeLine 11 (r .said) (suc number) (drop (stop + 1) text) some ∙ ap (λ (n : ℕ). refused 11 n) (sym (add-one number))))
+        unfolding policyRead readPolicy answerOf answered entered
+        line-more left = sym (ap answerOf (on-more judgeLine 11 10 nothing (r .on) sought here (judged-is (ap (answered (r .said)) ending)) left))
 
 -- ---- the arrays and counts after each kind of line
 

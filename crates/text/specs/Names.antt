@@ -1,5 +1,5 @@
 -- A name packed into four 64-bit words, tables of packed names, and where a name stands in one.
-use Prim.Native.Nat.{ℕ, zero, suc, _+_, _-_, _*_, _/_, _%_, _^_, _≤_, _<_}
+use Prim.Native.Nat.{ℕ, zero, suc, _+_, _-_, _*_, _/_, _%_, _^_, _≤_, _<_, zero-le}
 use mathlib.Core.Bool.{Bool, true, false, cond, _&&_, and-eq-true-iff}
 use mathlib.Core.List.{List, [], _∷_, _++_}
 use mathlib.Core.Path.{_≡_, refl, sym, ap, ap₂, _∙_}
@@ -198,3 +198,13 @@ place-one-to-one (first ∷ rest) m n same here = go (place-one-to-one rest m n)
         let on : placeOf rest m ≡ placeOf rest n = omega arith in
         let less : placeOf rest m < length rest = omega arith in
         below on less
+
+-- a place is at most the number of names
+pub place-most : (names : List Name) (name : Name) → placeOf names name ≤ length names
+unfolding placeOf
+place-most [] name = zero-le
+place-most (first ∷ rest) name = go (sameName first name) (place-most rest name)
+  where
+    go : (b : Bool) → placeOf rest name ≤ length rest → cond b 0 (suc (placeOf rest name)) ≤ suc (length rest)
+    go true below = zero-le
+    go false below = omega arith

@@ -34,7 +34,7 @@ loop-holds : tie.Need-loop-holds Inv-loop μ-loop
 loop-holds c = reached-start _ (c .before .before .if1 .left) (c .before .no-policy .ensures)
 
 seek-requires : tie.Need-seek-requires Inv-loop μ-loop
-seek-requires c κs = (c .before .loop .inv) .within
+seek-requires c κs = (c .before .loop .inv) .on .within
 
 refused-requires-2 : tie.Need-refused-requires-2 Inv-loop μ-loop
 refused-requires-2 c κs = search needs
@@ -52,13 +52,13 @@ part-read-line-end : tie.Need-part-read-line-end Inv-loop μ-loop
 part-read-line-end c = search needs
 
 read-line-requires : tie.Need-read-line-requires Inv-loop μ-loop
-read-line-requires c κs = (part-short (c .before .before .before .before .before .before .before .before .before .before .before .before .before .before .args .text .now) (c .before .before .before .before .before .before .before .before .before .loop .at) (c .before .before .before .before .before .before .before .seek .result) ((c .before .before .before .before .before .before .before .before .before .loop .inv) .short), tables (c .before .before .before .before .before .before .before .before .before .loop .inv) .0, tables (c .before .before .before .before .before .before .before .before .before .loop .inv) .1, tables (c .before .before .before .before .before .before .before .before .before .loop .inv) .2)
+read-line-requires c κs = (part-short (c .before .before .before .before .before .before .before .before .before .before .before .before .before .before .args .text .now) (c .before .before .before .before .before .before .before .before .before .loop .at) (c .before .before .before .before .before .before .before .seek .result) ((c .before .before .before .before .before .before .before .before .before .loop .inv) .on .short), tables (c .before .before .before .before .before .before .before .before .before .loop .inv) .0, tables (c .before .before .before .before .before .before .before .before .before .loop .inv) .1, tables (c .before .before .before .before .before .before .before .before .before .loop .inv) .2)
 
 add-at : tie.Need-add-at Inv-loop μ-loop
-add-at c = omega (arith, c .before .before .before .before .before .before .before .before .seek .ensures, (c .before .before .before .before .before .before .before .before .before .before .loop .inv) .short)
+add-at c = omega (arith, c .before .before .before .before .before .before .before .before .seek .ensures, (c .before .before .before .before .before .before .before .before .before .before .loop .inv) .on .short)
 
 add-number : tie.Need-add-number Inv-loop μ-loop
-add-number c = omega (arith, (c .before .before .before .before .before .before .before .before .before .before .loop .inv) .numbered, (c .before .before .before .before .before .before .before .before .before .before .loop .inv) .within, (c .before .before .before .before .before .before .before .before .before .before .loop .inv) .short)
+add-number c = omega (arith, (c .before .before .before .before .before .before .before .before .before .before .loop .inv) .on)
 
 enum-known-answer : tie.Need-enum-known-answer Inv-loop μ-loop
 enum-known-answer c = search needs
