@@ -2,5 +2,6 @@
 pub mod Turns
 pub mod TypingLines
 pub mod TypingText
+pub mod TypingReached
 pub mod TraceLines
 pub mod TraceText

@@ -31,6 +31,11 @@ added s (TypingEntry.Row label plus minus) =
     goes (record { stage = suc (s .stage); labels = s .labels ++ (label ∷ []); plus = s .plus ++ (plus ∷ []); minus = s .minus ++ (minus ∷ []) })
 added s TypingEntry.End = ends
 
+-- the refusal's number of a line that is not good
+unfoldable pub codeOf : TypingLine → ℕ
+codeOf (TypingLine.Good e) = 0
+codeOf (TypingLine.Bad number) = number
+
 unfoldable pub answered : Typed → TypingLine → Judged Typed
 answered s (TypingLine.Good e) = added s e
 answered s (TypingLine.Bad number) = bad number

@@ -6,6 +6,7 @@ ghost use mathlib.Core.List.{List};
 ghost use Rattle.text.specs.declared.Name.{Name};
 ghost use Rattle.text.specs.Names.{rows};
 ghost use Rattle.evidence.specs.TypingLines.{Line, oneField, twoFields, answerTo, judged, typingLine};
+ghost use Rattle.evidence.specs.TypingText.{untyped, tableOf, codeOf, refusedTyping, typingRead};
 use crate::turns::turn;
 use model::Typing;
 use reading::fields::read_set;
@@ -118,4 +119,89 @@ pub fn read_line(line: &[u8], roles: &[u64], count: usize, stage: usize) -> Typi
         count,
         stage,
     )
+}
+
+// The typing of no rows: L and empty sets.
+fn no_typing() -> Typing
+    ensures { λ r. ⌜ r ≡ tableOf untyped ⌝ }
+{
+    let none = RoleSet::empty();
+    Typing {
+        labels: [false; 128],
+        plus: [none; 128],
+        minus: [none; 128],
+    }
+}
+
+// A refusal, with the typing of no rows.
+fn refused(refusal: u64, line: usize) -> TypingRead
+    ensures { λ r. ⌜ r ≡ refusedTyping refusal line ⌝ }
+{
+    let typing = no_typing();
+    TypingRead {
+        refusal,
+        line,
+        typing,
+    }
+}
+
+// The refusal's number of a line that is not good.
+fn code(answer: TypingLine) -> u64
+    ensures { λ r. ⌜ r ≡ codeOf answer ⌝ }
+{
+    match answer {
+        TypingLine::Good(_) => 0,
+        TypingLine::Bad(number) => number,
+    }
+}
+
+// A typing text over the policy's role names. The first bad line decides the refusal.
+pub fn read_typing(text: &[u8], roles: &[u64], count: usize) -> TypingRead
+    requires { ⌜ (4 * count ≤ length (now roles)) × (count ≤ 128) ⌝ }
+    ensures { λ r. ⌜ r ≡ typingRead (rows count (now (roles .entry))) (now (text .entry)) ⌝ }
+{
+    let end = text.len();
+    if 32768 < end {
+        return refused(14, 0);
+    }
+    let mut typing = no_typing();
+    let mut stage = 0;
+    let mut at = 0;
+    let mut number = 1;
+    while at < end {
+        let stop = text::seek(text, at, b'\n');
+        if stop == end {
+            return refused(15, number);
+        }
+        let answer = read_line(&text[at..stop], roles, count, stage);
+        let here = number;
+        at = stop + 1;
+        number += 1;
+        let TypingLine::Good(entry) = answer else {
+            return refused(code(answer), here);
+        };
+        match entry {
+            TypingEntry::Header => {
+                stage = 1;
+            }
+            TypingEntry::Row(label, plus, minus) => {
+                let role = stage - 1;
+                typing.labels[role] = label;
+                typing.plus[role] = plus;
+                typing.minus[role] = minus;
+                stage += 1;
+            }
+            TypingEntry::End => {
+                if at < end {
+                    return refused(15, number);
+                }
+                return TypingRead {
+                    refusal: 0,
+                    line: 0,
+                    typing,
+                };
+            }
+        }
+    }
+    refused(15, number)
 }
