@@ -5,3 +5,4 @@ pub mod TypingText
 pub mod TypingReached
 pub mod TraceLines
 pub mod TraceText
+pub mod TraceReached

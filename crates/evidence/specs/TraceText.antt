@@ -25,6 +25,11 @@ added s TraceEntry.Header = goes (record { started = true; steps = s .steps })
 added s (TraceEntry.Step step) = goes (record { started = s .started; steps = s .steps ++ (step ∷ []) })
 added s TraceEntry.End = ends
 
+-- the refusal's number of a line that is not good
+unfoldable pub codeOf : TraceLine → ℕ
+codeOf (TraceLine.Good e) = 0
+codeOf (TraceLine.Bad number) = number
+
 unfoldable pub answered : Traced → TraceLine → Judged Traced
 answered s (TraceLine.Good e) = added s e
 answered s (TraceLine.Bad number) = bad number
@@ -36,9 +41,12 @@ judgeLine assigns revokes users s line = answered s (traceLine (s .started) assi
 unfoldable pub readTrace : (assigns revokes : ℕ) → List Name → List ℕ → Reading Traced
 readTrace assigns revokes users text = readText (judgeLine assigns revokes users) 15 14 untraced text
 
+unfoldable pub refusedTrace : (number line : ℕ) → TraceRead
+refusedTrace number line = record { refusal = number; line = line; steps = 0 }
+
 unfoldable pub answerOf : Reading Traced → TraceRead
 answerOf (read s) = record { refusal = 0; line = 0; steps = length (s .steps) }
-answerOf (refused number line) = record { refusal = number; line = line; steps = 0 }
+answerOf (refused number line) = refusedTrace number line
 
 unfoldable pub traceRead : (assigns revokes : ℕ) → List Name → List ℕ → TraceRead
 traceRead assigns revokes users text = answerOf (readTrace assigns revokes users text)

@@ -6,4 +6,6 @@ pub mod Lines
 pub mod Policy
 pub mod Walk
 pub mod Reached
+pub mod Exact
+pub mod PolicyExact
 pub mod Worked

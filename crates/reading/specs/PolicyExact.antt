@@ -1,0 +1,361 @@
+-- When a policy line and a policy text are refused, in document 01's words, and that `readPolicy` answers exactly so.
+use Prim.Native.Nat.{ℕ, suc, _≤_, _<_}
+use mathlib.Core.Bool.{Bool, true, false, cond, true≢false}
+use mathlib.Core.List.{List, [], _∷_}
+use mathlib.Core.Logic.{_↔_, _⊎_, inl, inr}
+use mathlib.Core.Path.{_≡_, refl, sym, ap, subst, _∙_}
+use borrow.Author.Tests.{eqb-true, eq-eqb}
+use lib.Dec.{eqb}
+use lib.ListN.{length}
+use native.Mathlib.Omega.{arith}
+use Rattle.roles.specs.Sets.{hasRole}
+use Rattle.model.specs.Policy.{person, Holds}
+use Rattle.text.specs.Forms.{bytes}
+use Rattle.text.specs.Pieces.{split, onto, sameBytes, same-equal, split-piece}
+use Rattle.reading.specs.declared.lines.Entry.{Entry}
+use Rattle.reading.specs.Texts.{Judged, goes, ends, bad, Reading, read, refused}
+use Rattle.reading.specs.Fields.{placed}
+use Rattle.reading.specs.Lines.{Line, header, role, user, has, assign, revoke, goal, end, other, oneField, twoFields, threeFields, fiveFields, lineOf, wellFormed, withinLimit, declared, entry, inTurn, judged, policyLine}
+use Rattle.reading.specs.Policy.{Said, nothing, countsOf, added, entered, answered, judgeLine, readPolicy}
+use Rattle.reading.specs.Exact.{Unbroken, Above, LineAt, ReadAs, Refusal, refusal-exact, read-exact}
+
+-- ---- one line
+
+-- A line by its fields, which tabs part.
+abbrev pub fields : List ℕ → Line
+fields line = lineOf (split 9 line)
+
+module _ (s : Said) (line : List ℕ) where
+  -- What the three tests say of the line, after what the lines above say.
+  abbrev pub formed : Bool
+  formed = wellFormed (countsOf s) (s .roles) (s .users) (fields line)
+
+  abbrev pub within : Bool
+  within = withinLimit (countsOf s) (fields line)
+
+  abbrev pub known : Bool
+  known = declared (s .roles) (s .users) (fields line)
+
+  -- The line is `has`, and its pair stands above already: the user holds the role.
+  pub record Repeated : Type 0 where
+    pub holder : List ℕ
+    pub held : List ℕ
+    pub is-has : fields line ≡ has holder held
+    pub stands : Holds (s .holdings) (placed (s .users) holder) (placed (s .roles) held)
+
+  -- The line is malformed: it lacks its form or its order or repeats a role or user name, or it is a has line of declared names
+  -- that repeats a pair.
+  pub data Malformed : Type 0 where
+    form : formed ≡ false → Malformed
+    pair : formed ≡ true → known ≡ true → Repeated → Malformed
+
+  -- The line is well formed and above a count limit.
+  pub record AboveLimit : Type 0 where
+    pub is-formed : formed ≡ true
+    pub is-above : within ≡ false
+
+  -- The line is well formed, within its limit, and uses a name that is not declared above.
+  pub record Undeclared : Type 0 where
+    pub is-formed : formed ≡ true
+    pub is-within : within ≡ true
+    pub is-unknown : known ≡ false
+
+  -- The line's refusal number, and why: malformed, then limit, then names.
+  pub data Fault : (number : ℕ) → Type 0 where
+    malformed : Malformed → Fault 11
+    above-limit : AboveLimit → Fault 12
+    undeclared : Undeclared → Fault 13
+
+  -- The line is `end`, after a goal.
+  pub record EndLine : Type 0 where
+    pub is-end : line ≡ bytes "end"
+    pub after-goal : s .stage ≡ 6
+
+  -- The line is good: it has no fault and is not `end`; what it says is added.
+  pub record Good (t : Said) : Type 0 where
+    pub is-formed : formed ≡ true
+    pub is-within : within ≡ true
+    pub is-known : known ≡ true
+    pub is-new : Repeated → ⊥
+    pub goes-on : line ≡ bytes "end" → ⊥
+    pub adds : t ≡ added s (entry (s .roles) (s .users) (fields line))
+
+-- ---- the whole text
+
+-- A policy is refused with a number at a line: 10 where it is too long; 11, 12 or 13 where all lines above the line are good and
+-- the line is malformed, above a count limit or names what is undeclared; 11 where all lines above are good and no LF is left,
+-- so that the last line has none or `end` is missing one past the last line; 11 where a byte follows the LF of `end`.
+-- `good-exact` says what a good line is.
+pub data PolicyRefusal (text : List ℕ) : (number line : ℕ) → Type 0 where
+  too-long : 32768 < length text → PolicyRefusal text 10 0
+  malformed : {n : ℕ} {s : Said} {line rest : List ℕ} → LineAt judgeLine nothing text n s line rest → Malformed s line → PolicyRefusal text 11 n
+  above-limit : {n : ℕ} {s : Said} {line rest : List ℕ} → LineAt judgeLine nothing text n s line rest → AboveLimit s line → PolicyRefusal text 12 n
+  undeclared : {n : ℕ} {s : Said} {line rest : List ℕ} → LineAt judgeLine nothing text n s line rest → Undeclared s line → PolicyRefusal text 13 n
+  no-end : {n : ℕ} {s : Said} {tail : List ℕ} → length text ≤ 32768 → Above judgeLine nothing text n s tail → Unbroken tail → PolicyRefusal text 11 n
+  after-end : {n : ℕ} {s : Said} {line rest : List ℕ} {byte : ℕ} → LineAt judgeLine nothing text n s line (byte ∷ rest) → EndLine s line → PolicyRefusal text 11 (suc n)
+
+-- A policy is read: some line, all above it good, is `end` after a goal, and nothing follows its LF.
+pub record PolicyReadAs (text : List ℕ) (said : Said) : Type 0 where
+  pub number : ℕ
+  pub line : List ℕ
+  pub last : LineAt judgeLine nothing text number said line []
+  pub is-end : EndLine said line
+
+-- ---- the line `end`, by its bytes and by its fields
+
+-- one piece is all the bytes
+whole-piece : (mark : ℕ) (s : List ℕ) {piece : List ℕ} → split mark s ≡ piece ∷ [] → s ≡ piece
+unfolding split onto
+whole-piece mark [] e = cc
+whole-piece mark (byte ∷ rest) {piece} e = go (eqb byte mark) e (split-piece mark rest) (λ p one. whole-piece mark rest one)
+  where
+    go : (t : Bool) → cond t ([] ∷ split mark rest) (onto byte (split mark rest)) ≡ piece ∷ [] → (first : List ℕ) × (more : List (List ℕ)) × (split mark rest ≡ first ∷ more)
+        → ((p : List ℕ) → split mark rest ≡ p ∷ [] → rest ≡ p) → byte ∷ rest ≡ piece
+    go true is (p, more, pieces) below = absurd (true≢false (cc))
+    go false is (p, more, pieces) below =
+        let one : (byte ∷ p) ∷ more ≡ piece ∷ [] = sym (ap (onto byte) pieces) ∙ is in
+        ap (λ (l : List ℕ). byte ∷ l) (below p (pieces ∙ ap (λ (l : List (List ℕ)). p ∷ l) (cc))) ∙ cc
+
+end-piece : (pieces : List (List ℕ)) → lineOf pieces ≡ end → pieces ≡ bytes "end" ∷ []
+unfolding lineOf oneField twoFields threeFields fiveFields
+end-piece [] e = absurd (true≢false (cc))
+end-piece (w ∷ []) e = go (sameBytes w (bytes "end")) refl e
+  where
+    go : (t : Bool) → sameBytes w (bytes "end") ≡ t → cond t end other ≡ end → w ∷ [] ≡ bytes "end" ∷ []
+    go true same is = ap (λ (x : List ℕ). x ∷ []) (same-equal w (bytes "end") same)
+    go false same is = absurd (true≢false (cc))
+end-piece (w ∷ a ∷ []) e = absurd (go (sameBytes w (bytes "role")) (sameBytes w (bytes "goal")) (sameBytes w (bytes "arbac")) e)
+  where
+    go : (t u v : Bool) → cond t (role a) (cond u (goal a) (cond v (header a) other)) ≡ end → ⊥
+    go true u v is = true≢false (cc)
+    go false true v is = true≢false (cc)
+    go false false true is = true≢false (cc)
+    go false false false is = true≢false (cc)
+end-piece (w ∷ a ∷ b ∷ []) e = absurd (go (sameBytes w (bytes "has")) (sameBytes w (bytes "revoke")) (sameBytes w (bytes "user")) e)
+  where
+    go : (t u v : Bool) → cond t (has a b) (cond u (revoke a b) (cond v (user a b) other)) ≡ end → ⊥
+    go true u v is = true≢false (cc)
+    go false true v is = true≢false (cc)
+    go false false true is = true≢false (cc)
+    go false false false is = true≢false (cc)
+end-piece (w ∷ a ∷ b ∷ c ∷ []) e = absurd (true≢false (cc))
+end-piece (w ∷ a ∷ b ∷ c ∷ d ∷ []) e = absurd (go (sameBytes w (bytes "assign")) e)
+  where
+    go : (t : Bool) → cond t (assign a b c d) other ≡ end → ⊥
+    go true is = true≢false (cc)
+    go false is = true≢false (cc)
+end-piece (w ∷ a ∷ b ∷ c ∷ d ∷ f ∷ more) e = absurd (true≢false (cc))
+
+-- a line is `end` by its fields exactly when it is by its bytes
+pub end-bytes : (line : List ℕ) → fields line ≡ end ↔ line ≡ bytes "end"
+unfolding lineOf oneField split onto sameBytes
+end-bytes line = (λ e. whole-piece 9 line (end-piece (split 9 line) e), λ is. ap (λ (l : List ℕ). lineOf (split 9 l)) is)
+
+-- ---- a line's judgement says what it means, and what is meant is judged so
+
+-- a line that is neither `has` nor `end`
+plain : Line → Bool
+plain (header edition) = true
+plain (role name) = true
+plain (user name clearance) = true
+plain (has holder held) = false
+plain (assign admin positive negative target) = true
+plain (revoke admin target) = true
+plain (goal roles) = true
+plain end = false
+plain other = true
+
+module _ (s : Said) (line : List ℕ) where
+  -- what a judgement says of the line
+  Means : Judged Said → Type 0
+  Means (goes t) = Good s line t
+  Means ends = EndLine s line
+  Means (bad k) = Fault s line k
+
+  plain-good : (f : Line) → fields line ≡ f → plain f ≡ true → formed s line ≡ true → within s line ≡ true → known s line ≡ true → Good s line (added s (entry (s .roles) (s .users) f))
+  unfolding plain
+  plain-good f is simple a b c = record {
+    is-formed = a;
+    is-within = b;
+    is-known = c;
+    is-new = λ r. true≢false (sym simple ∙ ap plain (sym is ∙ r .is-has));
+    goes-on = λ e. true≢false (sym simple ∙ ap plain (sym is ∙ end-bytes line .1 e));
+    adds = ap (λ (x : Line). added s (entry (s .roles) (s .users) x)) (sym is);
+  }
+
+  -- a has line whose pair stands above, or is new
+  has-means : (holder held : List ℕ) → fields line ≡ has holder held → formed s line ≡ true → within s line ≡ true → known s line ≡ true → Means (entered s (Entry.Has (placed (s .users) holder) (placed (s .roles) held)))
+  unfolding Means entered entry
+  has-means holder held is a b c = go (hasRole (person (s .holdings) (placed (s .users) holder) .roles) (placed (s .roles) held)) refl
+    where
+      go : (t : Bool) → hasRole (person (s .holdings) (placed (s .users) holder) .roles) (placed (s .roles) held) ≡ t
+          → Means (cond t (bad 11) (goes (added s (Entry.Has (placed (s .users) holder) (placed (s .roles) held)))))
+      go true old = malformed (pair a c (record { holder = holder; held = held; is-has = is; stands = record { held = record { found = old } } }))
+      go false new = record {
+        is-formed = a;
+        is-within = b;
+        is-known = c;
+        is-new = λ r. true≢false (cc (r .stands .held .found));
+        goes-on = λ e. true≢false (cc (end-bytes line .1 e));
+        adds = ap (λ (x : Line). added s (entry (s .roles) (s .users) x)) (sym is);
+      }
+
+  means-good : (f : Line) → fields line ≡ f → formed s line ≡ true → within s line ≡ true → known s line ≡ true → Means (entered s (entry (s .roles) (s .users) f))
+  unfolding Means entered entry wellFormed countsOf plain
+  means-good (header edition) is a b c = plain-good (header edition) is refl a b c
+  means-good (role name) is a b c = plain-good (role name) is refl a b c
+  means-good (user name clearance) is a b c = plain-good (user name clearance) is refl a b c
+  means-good (has holder held) is a b c = has-means holder held is a b c
+  means-good (assign admin positive negative target) is a b c = plain-good (assign admin positive negative target) is refl a b c
+  means-good (revoke admin target) is a b c = plain-good (revoke admin target) is refl a b c
+  means-good (goal roles) is a b c = plain-good (goal roles) is refl a b c
+  means-good end is a b c = record { is-end = end-bytes line .0 is; after-goal = eqb-true (s .stage) 6 (sym (ap (wellFormed (countsOf s) (s .roles) (s .users)) is) ∙ a) }
+  means-good other is a b c = absurd (true≢false (sym a ∙ ap (wellFormed (countsOf s) (s .roles) (s .users)) is))
+
+  means-line : Means (judgeLine s line)
+  unfolding Means judgeLine answered policyLine judged inTurn
+  means-line = go (formed s line) (within s line) (known s line) refl refl refl
+    where
+      go : (f w d : Bool) → formed s line ≡ f → within s line ≡ w → known s line ≡ d → Means (answered s (inTurn f w d (entry (s .roles) (s .users) (fields line))))
+      go true true true a b c = means-good (fields line) refl a b c
+      go true true false a b c = undeclared (record { is-formed = a; is-within = b; is-unknown = c })
+      go true false d a b c = above-limit (record { is-formed = a; is-above = b })
+      go false w d a b c = malformed (form a)
+
+  -- and the other way round
+  all-pass : formed s line ≡ true → within s line ≡ true → known s line ≡ true → judgeLine s line ≡ entered s (entry (s .roles) (s .users) (fields line))
+  unfolding judgeLine answered policyLine judged inTurn
+  all-pass a b c = rw (a, b, c)
+
+  fault-judged : {k : ℕ} → Fault s line k → judgeLine s line ≡ bad k
+  unfolding judgeLine answered policyLine judged inTurn withinLimit entered entry
+  fault-judged (malformed (form a)) = rw a
+  fault-judged (malformed (pair a c r)) =
+      all-pass a (ap (withinLimit (countsOf s)) (r .is-has)) c ∙ ap (λ (f : Line). entered s (entry (s .roles) (s .users) f)) (r .is-has) ∙ rw (r .stands .held .found)
+  fault-judged (above-limit f) = rw (f .is-formed, f .is-above)
+  fault-judged (undeclared f) = rw (f .is-formed, f .is-within, f .is-unknown)
+
+  end-judged : EndLine s line → judgeLine s line ≡ ends
+  unfolding wellFormed withinLimit declared entry entered countsOf
+  end-judged e =
+      let is = end-bytes line .1 (e .is-end) in
+      all-pass (ap (wellFormed (countsOf s) (s .roles) (s .users)) is ∙ eq-eqb (s .stage) 6 (e .after-goal)) (ap (withinLimit (countsOf s)) is) (ap (declared (s .roles) (s .users)) is)
+      ∙ ap (λ (f : Line). entered s (entry (s .roles) (s .users) f)) is
+
+  good-judged : {t : Said} → Good s line t → judgeLine s line ≡ goes t
+  unfolding Means
+  good-judged {t} g = go (judgeLine s line) means-line
+    where
+      go : (j : Judged Said) → Means j → j ≡ goes t
+      go (goes u) is = ap goes (is .adds ∙ sym (g .adds))
+      go ends is = absurd (g .goes-on (is .is-end))
+      go (bad k) (malformed (form a)) = absurd (true≢false (sym (g .is-formed) ∙ a))
+      go (bad k) (malformed (pair a c r)) = absurd (g .is-new r)
+      go (bad k) (above-limit f) = absurd (true≢false (sym (g .is-within) ∙ f .is-above))
+      go (bad k) (undeclared f) = absurd (true≢false (sym (g .is-known) ∙ f .is-unknown))
+
+-- ---- each refusal of a line, exactly
+
+module _ (s : Said) (line : List ℕ) where
+  -- A line is refused exactly for its fault, with the fault's number and no other.
+  pub fault-exact : (k : ℕ) → judgeLine s line ≡ bad k ↔ Fault s line k
+  unfolding Means
+  fault-exact k = (λ is. subst (Means s line) is (means-line s line), fault-judged s line)
+
+  -- 11 exactly when it is malformed,
+  pub malformed-exact : judgeLine s line ≡ bad 11 ↔ Malformed s line
+  malformed-exact = (λ is. go refl (fault-exact 11 .0 is), λ m. fault-judged s line (malformed m))
+    where
+      go : {k : ℕ} → k ≡ 11 → Fault s line k → Malformed s line
+      go e (malformed m) = m
+      go e (above-limit f) = absurd (omega arith)
+      go e (undeclared f) = absurd (omega arith)
+
+  -- 12 exactly when it is well formed and above a count limit,
+  pub limit-exact : judgeLine s line ≡ bad 12 ↔ AboveLimit s line
+  limit-exact = (λ is. go refl (fault-exact 12 .0 is), λ f. fault-judged s line (above-limit f))
+    where
+      go : {k : ℕ} → k ≡ 12 → Fault s line k → AboveLimit s line
+      go e (malformed m) = absurd (omega arith)
+      go e (above-limit f) = f
+      go e (undeclared f) = absurd (omega arith)
+
+  -- 13 exactly when it is well formed, within its limit, and names what is not declared,
+  pub undeclared-exact : judgeLine s line ≡ bad 13 ↔ Undeclared s line
+  undeclared-exact = (λ is. go refl (fault-exact 13 .0 is), λ f. fault-judged s line (undeclared f))
+    where
+      go : {k : ℕ} → k ≡ 13 → Fault s line k → Undeclared s line
+      go e (malformed m) = absurd (omega arith)
+      go e (above-limit f) = absurd (omega arith)
+      go e (undeclared f) = f
+
+  -- and with no other number.
+  pub no-other-number : {k : ℕ} → judgeLine s line ≡ bad k → (k ≡ 11) ⊎ ((k ≡ 12) ⊎ (k ≡ 13))
+  no-other-number {k} is = go (fault-exact k .0 is)
+    where
+      go : {k : ℕ} → Fault s line k → (k ≡ 11) ⊎ ((k ≡ 12) ⊎ (k ≡ 13))
+      go (malformed m) = inl refl
+      go (above-limit f) = inr (inl refl)
+      go (undeclared f) = inr (inr refl)
+
+  -- It is the last line exactly when it is `end` after a goal,
+  pub end-exact : judgeLine s line ≡ ends ↔ EndLine s line
+  unfolding Means
+  end-exact = (λ is. subst (Means s line) is (means-line s line), end-judged s line)
+
+  -- and the reading goes on exactly when it is good.
+  pub good-exact : (t : Said) → judgeLine s line ≡ goes t ↔ Good s line t
+  unfolding Means
+  good-exact t = (λ is. subst (Means s line) is (means-line s line), good-judged s line)
+
+-- ---- each refusal of a policy, exactly
+
+module _ (text : List ℕ) where
+  -- A policy is refused with a number at a line exactly when it has that refusal.
+  pub policy-refusal-exact : (k n : ℕ) → readPolicy text ≡ refused k n ↔ PolicyRefusal text k n
+  unfolding readPolicy
+  policy-refusal-exact k n = (λ is. go (refusal-exact judgeLine 11 10 nothing text k n .0 is), λ r. refusal-exact judgeLine 11 10 nothing text k n .1 (back r))
+    where
+      of-fault : {k n : ℕ} {s : Said} {line rest : List ℕ} → LineAt judgeLine nothing text n s line rest → Fault s line k → PolicyRefusal text k n
+      of-fault at (Fault.malformed m) = malformed at m
+      of-fault at (Fault.above-limit f) = above-limit at f
+      of-fault at (Fault.undeclared f) = undeclared at f
+
+      go : {k n : ℕ} → Refusal judgeLine 11 10 nothing text k n → PolicyRefusal text k n
+      go (Refusal.too-long above) = too-long above
+      go (Refusal.bad-line {k} {n} {s} {line} at is) = of-fault at (fault-exact s line k .0 is)
+      go (Refusal.no-end fits above tail) = no-end fits above tail
+      go (Refusal.after-end {n} {s} {line} at is) = after-end at (end-exact s line .0 is)
+
+      back : {k n : ℕ} → PolicyRefusal text k n → Refusal judgeLine 11 10 nothing text k n
+      back (PolicyRefusal.too-long above) = Refusal.too-long above
+      back (PolicyRefusal.malformed {n} {s} {line} at m) = Refusal.bad-line at (malformed-exact s line .1 m)
+      back (PolicyRefusal.above-limit {n} {s} {line} at f) = Refusal.bad-line at (limit-exact s line .1 f)
+      back (PolicyRefusal.undeclared {n} {s} {line} at f) = Refusal.bad-line at (undeclared-exact s line .1 f)
+      back (PolicyRefusal.no-end fits above tail) = Refusal.no-end fits above tail
+      back (PolicyRefusal.after-end {n} {s} {line} at e) = Refusal.after-end at (end-exact s line .1 e)
+
+  -- A policy is read as it says exactly when it does.
+  pub policy-read-exact : (s : Said) → readPolicy text ≡ read s ↔ PolicyReadAs text s
+  unfolding readPolicy
+  policy-read-exact s = (λ is. go (read-exact judgeLine 11 10 nothing text s .0 is), λ p. read-exact judgeLine 11 10 nothing text s .1 (back p))
+    where
+      go : ReadAs judgeLine nothing text s → PolicyReadAs text s
+      go r = record { number = r .number; line = r .line; last = r .last; is-end = end-exact s (r .line) .0 (r .is-end) }
+
+      back : PolicyReadAs text s → ReadAs judgeLine nothing text s
+      back p = record { number = p .number; line = p .line; last = p .last; is-end = end-exact s (p .line) .1 (p .is-end) }
+
+  -- A policy has at most one refusal; it is read or refused, and never both.
+  pub policy-one-refusal : {k l n m : ℕ} → PolicyRefusal text k n → PolicyRefusal text l m → (k ≡ l) × (n ≡ m)
+  policy-one-refusal {k} {l} {n} {m} a b = let same : _≡_ {A = Reading Said} (refused k n) (refused l m) = sym (policy-refusal-exact k n .1 a) ∙ policy-refusal-exact l m .1 b in (cc, cc)
+
+  pub policy-read-or-refused : ((s : Said) × PolicyReadAs text s) ⊎ ((k : ℕ) × (n : ℕ) × PolicyRefusal text k n)
+  policy-read-or-refused = go (readPolicy text) refl
+    where
+      go : (r : Reading Said) → readPolicy text ≡ r → ((s : Said) × PolicyReadAs text s) ⊎ ((k : ℕ) × (n : ℕ) × PolicyRefusal text k n)
+      go (read s) is = inl (s, policy-read-exact s .0 is)
+      go (refused k n) is = inr (k, n, policy-refusal-exact k n .0 is)
+
+  pub policy-read-not-refused : {s : Said} {k n : ℕ} → PolicyReadAs text s → PolicyRefusal text k n → ⊥
+  policy-read-not-refused {s} {k} {n} a b = let same : read s ≡ refused k n = sym (policy-read-exact s .1 a) ∙ policy-refusal-exact k n .1 b in true≢false (cc)
