@@ -6,3 +6,5 @@ pub mod TypingReached
 pub mod TraceLines
 pub mod TraceText
 pub mod TraceReached
+pub mod Place
+pub mod PlaceLaws

@@ -1,4 +1,5 @@
-// Evidence: typing texts and trace texts over a policy.
+// Evidence: typing texts and trace texts over a policy, and the bad line.
+pub mod place;
 pub mod trace;
 pub mod turns;
 pub mod typing;

@@ -6,6 +6,8 @@ pub mod Lines
 pub mod Policy
 pub mod Walk
 pub mod Reached
+pub mod Kept
 pub mod Exact
 pub mod PolicyExact
+pub mod Told
 pub mod Worked

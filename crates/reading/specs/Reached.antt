@@ -162,13 +162,13 @@ padded-length : (size : ℕ) (xs : List ℕ) → length xs ≤ size → length (
 unfolding padded
 padded-length size xs fits = omega (arith, length-append xs (replicate (size - length xs) 0), length-replicate {A = ℕ} (size - length xs) 0)
 
-table-room : (names : List Name) (count : ℕ) {table : List ℕ} → count ≡ length names → table ≡ padded 512 0 (wordsOf names) → length names ≤ 128 → 4 * count ≤ length table
+pub table-room : (names : List Name) (count : ℕ) {table : List ℕ} → count ≡ length names → table ≡ padded 512 0 (wordsOf names) → length names ≤ 128 → 4 * count ≤ length table
 table-room names count many is few =
     let long : length (padded 512 0 (wordsOf names)) ≡ 512 = padded-length 512 (wordsOf names) (omega (arith, words-length names)) in
     omega (arith, ap length is, long, many)
 
 -- a table that is laid out gives its names back
-table-names : (names : List Name) (count : ℕ) {table : List ℕ} → count ≡ length names → table ≡ padded 512 0 (wordsOf names) → rows count table ≡ names
+pub table-names : (names : List Name) (count : ℕ) {table : List ℕ} → count ≡ length names → table ≡ padded 512 0 (wordsOf names) → rows count table ≡ names
 unfolding padded
 table-names names count many is = ap₂ rows many is ∙ rows-laid names (replicate (512 - length (wordsOf names)) 0)
 

@@ -1,0 +1,74 @@
+-- A step over the arrays of a program, of which the first elements are the state and the rules.
+use Prim.Native.Nat.{ℕ, _≤_, _<_, min}
+use borrow.Author.Tests.{lt-ltb}
+use mathlib.Core.List.{List}
+use mathlib.Core.Path.{_≡_, refl, sym, ap, _∙_}
+use lib.ListN.{length, getD, take, set}
+use lib.Seq.{take-all, take-set-lt, getD-take}
+use native.Mathlib.Decide.{decLe}
+use native.Mathlib.Omega.{arith}
+use Rattle.model.specs.declared.Assign.{Assign}
+use Rattle.model.specs.declared.Revoke.{Revoke}
+use Rattle.model.specs.declared.Person.{Person}
+use Rattle.model.specs.Policy.{State, nobody, person, holding, granted, revoked}
+use Rattle.steps.specs.declared.Step.{Step as TraceStep}
+use Rattle.steps.specs.Tests.{mayAssign, mayRevoke, withTarget, withoutTarget}
+use Rattle.steps.specs.Traces.{assignAt, revokeAt, possible, after}
+
+-- A count above the array's length counts as that length.
+pub take-limit : {A : Type 0} (l : List A) (count : ℕ) → take (min count (length l)) l ≡ take count l
+take-limit l count = go (decLe count (length l))
+  where
+    go : Dec (count ≤ length l) → take (min count (length l)) l ≡ take count l
+    go (yes h) =
+        let same : min count (length l) ≡ count = omega arith in
+        rw same
+    go (no h) = take-all (min count (length l)) l (omega arith) ∙ sym (take-all count l (omega arith))
+
+-- ---- a step whose actor, rule and user are in range
+
+module _ (assigns : List Assign) (revokes : List Revoke) (σ : State) (actor rule user : ℕ) where
+  pub assign-may : rule < length assigns → actor < length σ → user < length σ
+      → possible assigns revokes σ (TraceStep.Assign actor rule user) ≡ mayAssign (assignAt assigns rule) (person σ actor) (person σ user)
+  unfolding possible
+  assign-may a b c = rw (lt-ltb rule (length assigns) a, lt-ltb actor (length σ) b, lt-ltb user (length σ) c)
+
+  pub revoke-may : rule < length revokes → actor < length σ → user < length σ
+      → possible assigns revokes σ (TraceStep.Revoke actor rule user) ≡ mayRevoke (revokeAt revokes rule) (person σ actor) (person σ user)
+  unfolding possible
+  revoke-may a b c = rw (lt-ltb rule (length revokes) a, lt-ltb actor (length σ) b, lt-ltb user (length σ) c)
+
+  -- the user's record is the one that changes
+  pub assign-after : after assigns revokes σ (TraceStep.Assign actor rule user) ≡ set σ user (withTarget (assignAt assigns rule) (person σ user))
+  unfolding after granted holding withTarget
+  assign-after = refl
+
+  pub revoke-after : after assigns revokes σ (TraceStep.Revoke actor rule user) ≡ set σ user (withoutTarget (revokeAt revokes rule) (person σ user))
+  unfolding after revoked holding withoutTarget
+  revoke-after = refl
+
+-- ---- a state and rules that are the first elements of arrays
+
+pub person-taken : (persons : List Person) (users : ℕ) {user : ℕ} → user < users → person (take users persons) user ≡ getD persons user nobody
+unfolding person
+person-taken persons users {user} below = getD-take users persons user nobody below
+
+pub assign-taken : (rules : List Assign) (count : ℕ) {rule : ℕ} → rule < count → assignAt (take count rules) rule ≡ assignAt rules rule
+unfolding assignAt
+assign-taken rules count {rule} below = getD-take count rules rule _ below
+
+pub revoke-taken : (rules : List Revoke) (count : ℕ) {rule : ℕ} → rule < count → revokeAt (take count rules) rule ≡ revokeAt rules rule
+unfolding revokeAt
+revoke-taken rules count {rule} below = getD-take count rules rule _ below
+
+-- the state after the step is what the array holds once the user's record is stored
+module _ (assigns : List Assign) (revokes : List Revoke) (persons : List Person) (users : ℕ) (actor rule user : ℕ) (below : user < users) where
+  pub assign-stored : after assigns revokes (take users persons) (TraceStep.Assign actor rule user) ≡ take users (set persons user (withTarget (assignAt assigns rule) (getD persons user nobody)))
+  assign-stored =
+      assign-after assigns revokes (take users persons) actor rule user ∙ ap (λ (p : Person). set (take users persons) user (withTarget (assignAt assigns rule) p)) (person-taken persons users below)
+      ∙ sym (take-set-lt users persons user _ below)
+
+  pub revoke-stored : after assigns revokes (take users persons) (TraceStep.Revoke actor rule user) ≡ take users (set persons user (withoutTarget (revokeAt revokes rule) (getD persons user nobody)))
+  revoke-stored =
+      revoke-after assigns revokes (take users persons) actor rule user ∙ ap (λ (p : Person). set (take users persons) user (withoutTarget (revokeAt revokes rule) p)) (person-taken persons users below)
+      ∙ sym (take-set-lt users persons user _ below)

@@ -1,0 +1,47 @@
+-- Whole traces over the lists of a policy: which step is possible, the state after it, and going through the steps from a state.
+use Prim.Native.Nat.{ℕ, suc}
+use mathlib.Core.Bool.{Bool, cond, _&&_}
+use mathlib.Core.List.{List, [], _∷_}
+use lib.Dec.{ltb}
+use lib.ListN.{length, getD}
+use Rattle.roles.specs.Sets.{emptySet}
+use Rattle.model.specs.declared.Assign.{Assign}
+use Rattle.model.specs.declared.Revoke.{Revoke}
+use Rattle.model.specs.Policy.{State, person, granted, revoked}
+use Rattle.steps.specs.declared.Step.{Step as TraceStep}
+use Rattle.steps.specs.Tests.{mayAssign, mayRevoke}
+
+-- The rule at a place of the list. Past its end stands what is no rule.
+unfoldable pub assignAt : List Assign → ℕ → Assign
+assignAt assigns rule = getD assigns rule (record { admin = 0; positive = emptySet; negative = emptySet; target = 0 })
+
+unfoldable pub revokeAt : List Revoke → ℕ → Revoke
+revokeAt revokes rule = getD revokes rule (record { admin = 0; target = 0 })
+
+-- The actor and the user are listed, the rule is one of its list, and the actor may use it on the user.
+unfoldable pub possible : List Assign → List Revoke → State → TraceStep → Bool
+possible assigns revokes σ (TraceStep.Assign actor rule user) =
+    ltb rule (length assigns) && ltb actor (length σ) && ltb user (length σ) && mayAssign (assignAt assigns rule) (person σ actor) (person σ user)
+possible assigns revokes σ (TraceStep.Revoke actor rule user) =
+    ltb rule (length revokes) && ltb actor (length σ) && ltb user (length σ) && mayRevoke (revokeAt revokes rule) (person σ actor) (person σ user)
+
+-- The state after the step: the user holds the rule's target; or holds it no more.
+unfoldable pub after : List Assign → List Revoke → State → TraceStep → State
+after assigns revokes σ (TraceStep.Assign actor rule user) = granted σ user (assignAt assigns rule .target)
+after assigns revokes σ (TraceStep.Revoke actor rule user) = revoked σ user (revokeAt revokes rule .target)
+
+-- What going through the steps gives: the number, from 1, of the first that is not possible; or the last state.
+pub data Ran : Type 0 where
+  broken : ℕ → Ran
+  ran : State → Ran
+
+-- with one step more before the first
+unfoldable pub later : Ran → Ran
+later (broken number) = broken (suc number)
+later (ran last) = ran last
+
+-- The steps in turn, from a state, up to the first that is not possible where it stands.
+unfoldable pub runOf : List Assign → List Revoke → State → List TraceStep → Ran
+runOf assigns revokes σ [] = ran σ
+runOf assigns revokes σ (step ∷ steps) =
+    cond (possible assigns revokes σ step) (later (runOf assigns revokes (after assigns revokes σ step) steps)) (broken 1)
