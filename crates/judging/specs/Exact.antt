@@ -1,0 +1,180 @@
+-- The verdict is exact: accepted exactly when the typing is, and otherwise the first failure in document 01's order.
+use Prim.Native.Nat.{ℕ, zero, suc, _<_}
+use mathlib.Core.Bool.{true}
+use mathlib.Core.List.{List, [], _∷_, List·Memᴰ as Listed, List·Memᴰ·head as first, List·Memᴰ·tail as later}
+use mathlib.Core.Logic.{_↔_, _⊎_, inl, inr}
+use mathlib.Core.Path.{_≡_, refl, sym, subst}
+use lib.ListN.{length, getD}
+use native.Mathlib.Omega.{arith}
+use Rattle.roles.specs.declared.RoleSet.{RoleSet}
+use Rattle.roles.specs.Members.{Sized}
+use Rattle.model.specs.declared.Typing.{Typing as Table}
+use Rattle.model.specs.declared.Assign.{Assign}
+use Rattle.model.specs.declared.Revoke.{Revoke}
+use Rattle.model.specs.declared.Person.{Person}
+use Rattle.model.specs.Policy.{Policy, State, nobody, person, Run, Bad}
+use Rattle.model.specs.Typing.{Typing, closure, AssignPasses, RevokePasses, WellTyped, HoldingsPass, GoalPasses, RulesPass, Accepted}
+use Rattle.model.specs.Meaning.{meaning}
+use Rattle.model.specs.Safety.{accepted-safe}
+use Rattle.rules.specs.Tests.{personPasses, assignPasses, revokePasses, goalPasses}
+use Rattle.rules.specs.Exact.{Laid, SizedRule, person-exact, assign-exact, revoke-exact, goal-exact}
+use Rattle.reading.specs.Policy.{Said}
+use Rattle.judging.specs.declared.Part.{Part}
+use Rattle.judging.specs.declared.TypingVerdict.{TypingVerdict}
+use Rattle.judging.specs.Verdict.{policyOf, subjectOf, firstHolding, firstAssign, firstRevoke, firstGoal, failingPart, andThen, judgedRules, judgedTyping, rulesVerdict, typingVerdict}
+use Rattle.judging.specs.Failing.{FirstBad}
+use Rattle.judging.specs.Order.{both-accepted, one-fails, part-accepted, part-fails}
+
+-- The sets of a policy's assign rules and goals are words of 64 bits.
+pub record SizedPolicy (s : Said) : Type 0 where
+  pub assigns : {rule : Assign} → Listed rule (s .assigns) → SizedRule rule
+  pub goals : {goal : RoleSet} → Listed goal (s .goals) → Sized goal
+
+-- The first rule that fails: an assign rule, or a revoke rule where all assign rules pass.
+pub data FirstRule (Γ : Typing) (P : Policy) : Part → ℕ → Type 0 where
+  at-assign : {number : ℕ} → FirstBad (AssignPasses closure Γ) (P .assigns) number → FirstRule Γ P Part.Assign number
+  at-revoke : {number : ℕ} → ((rule : Assign) → Listed rule (P .assigns) → AssignPasses closure Γ rule) → FirstBad (RevokePasses Γ) (P .revokes) number → FirstRule Γ P Part.Revoke number
+
+-- The first failure: a user's holdings; or a rule, where the holdings pass; or a goal, where holdings and rules pass.
+pub data FirstFailure (Γ : Typing) (P : Policy) (σ : State) : Part → ℕ → Type 0 where
+  at-holdings : {number : ℕ} → FirstBad (WellTyped Γ) σ number → FirstFailure Γ P σ Part.Holdings number
+  at-rule : {part : Part} {number : ℕ} → HoldingsPass Γ σ → FirstRule Γ P part number → FirstFailure Γ P σ part number
+  at-goal : {number : ℕ} → HoldingsPass Γ σ → RulesPass closure Γ P → FirstBad (GoalPasses closure Γ) (P .goals) number → FirstFailure Γ P σ Part.Goal number
+
+-- ---- the holdings of every user, by place or by person
+
+-- a person of a list stands at a place, and what stands at a place is of the list
+at-place : {A : Type 0} (xs : List A) (past : A) (i : ℕ) → i < length xs → Listed (getD xs i past) xs
+at-place [] past i here = absurd (omega (arith, here))
+at-place (x ∷ xs) past zero here = first refl
+at-place (x ∷ xs) past (suc i) here = later (at-place xs past i (omega (arith, here)))
+
+place-of : {A : Type 0} (past : A) {x : A} {xs : List A} → Listed x xs → (i : ℕ) × (i < length xs) × (getD xs i past ≡ x)
+place-of past (first e) = (0, omega arith, sym e)
+place-of past (later m) = let (i, here, same) = place-of past m in (suc i, omega (arith, here), same)
+
+holdings-each : (Γ : Typing) (σ : State) → HoldingsPass Γ σ ↔ ((p : Person) → Listed p σ → WellTyped Γ p)
+unfolding person
+holdings-each Γ σ = (
+  λ pass p m. let (i, here, same) = place-of nobody m in subst (WellTyped Γ) same (pass .user (record { listed = here })),
+  λ each. record { user = λ {user} here. each (person σ user) (at-place σ nobody user (here .listed)) },
+)
+
+module _ {s : Said} {t : Table} (sized : SizedPolicy s) (laid : Laid t (length (s .roles))) where
+  -- ---- each part's test is exact
+
+  persons-exact : (p : Person) → Listed p (s .holdings) → personPasses t (length (s .roles)) p ≡ true ↔ WellTyped (meaning t) p
+  persons-exact p m = person-exact laid p
+
+  assigns-exact : (rule : Assign) → Listed rule (s .assigns) → assignPasses t (length (s .roles)) rule ≡ true ↔ AssignPasses closure (meaning t) rule
+  assigns-exact rule m = assign-exact laid rule (sized .assigns m)
+
+  revokes-exact : (rule : Revoke) → Listed rule (s .revokes) → revokePasses t (length (s .roles)) rule ≡ true ↔ RevokePasses (meaning t) rule
+  revokes-exact rule m = revoke-exact (laid .fits) rule
+
+  goals-exact : (goal : RoleSet) → Listed goal (s .goals) → goalPasses t (length (s .roles)) goal ≡ true ↔ GoalPasses closure (meaning t) goal
+  goals-exact goal m = goal-exact laid goal (sized .goals m)
+
+  -- ---- accepted
+
+  holdings-accepted : failingPart Part.Holdings (firstHolding (subjectOf s) t) ≡ TypingVerdict.Accepted ↔ HoldingsPass (meaning t) (s .holdings)
+  unfolding subjectOf firstHolding
+  holdings-accepted =
+      let each = holdings-each (meaning t) (s .holdings) in
+      let part = part-accepted Part.Holdings persons-exact in
+      (λ e. each .1 (part .0 e), λ pass. part .1 (each .0 pass))
+
+  goals-accepted : failingPart Part.Goal (firstGoal (subjectOf s) t) ≡ TypingVerdict.Accepted ↔ ((goal : RoleSet) → Listed goal (s .goals) → GoalPasses closure (meaning t) goal)
+  unfolding subjectOf policyOf firstGoal
+  goals-accepted = part-accepted Part.Goal goals-exact
+
+  -- The verdict on the rules is accepted exactly when the rules pass.
+  pub rules-accepted : rulesVerdict s t ≡ TypingVerdict.Accepted ↔ RulesPass closure (meaning t) (policyOf s)
+  unfolding rulesVerdict judgedRules subjectOf policyOf firstAssign firstRevoke
+  rules-accepted =
+      let assigns = part-accepted Part.Assign assigns-exact in
+      let revokes = part-accepted Part.Revoke revokes-exact in
+      let both = both-accepted _ _ in (
+        λ e. record { assigns = λ {rule} m. assigns .0 (both .0 e .0) rule m; revokes = λ {rule} m. revokes .0 (both .0 e .1) rule m },
+        λ pass. both .1 (assigns .1 (λ rule m. pass .assigns m), revokes .1 (λ rule m. pass .revokes m)),
+      )
+
+  -- The verdict is accepted exactly when the typing is accepted.
+  pub typing-accepted : typingVerdict s t ≡ TypingVerdict.Accepted ↔ Accepted (meaning t) (policyOf s) (s .holdings)
+  unfolding typingVerdict judgedTyping rulesVerdict policyOf
+  typing-accepted =
+      let later-parts = both-accepted _ _ in
+      let all = both-accepted _ _ in (
+        λ e. record {
+          holdings = holdings-accepted .0 (all .0 e .0);
+          rules = rules-accepted .0 (later-parts .0 (all .0 e .1) .0);
+          goals = λ {goal} m. goals-accepted .0 (later-parts .0 (all .0 e .1) .1) goal m;
+        },
+        λ accepted. all .1 (holdings-accepted .1 (accepted .holdings), later-parts .1 (rules-accepted .1 (accepted .rules), goals-accepted .1 (λ goal m. accepted .goals m))),
+      )
+
+  -- Where the verdict is accepted, no run from the initial holdings reaches a bad state.
+  pub typing-safe : typingVerdict s t ≡ TypingVerdict.Accepted → {τ : State} → Run (policyOf s) (s .holdings) τ → Bad (policyOf s .goals) τ → ⊥
+  typing-safe e run bad = accepted-safe (typing-accepted .0 e) run bad
+
+  -- ---- the first failure
+
+  -- The verdict on the rules is a failure exactly when that is the first.
+  pub rules-first : (part : Part) (number : ℕ) → rulesVerdict s t ≡ TypingVerdict.Fails part number ↔ FirstRule (meaning t) (policyOf s) part number
+  unfolding rulesVerdict judgedRules subjectOf policyOf firstAssign firstRevoke
+  rules-first part number = (λ e. told (one-fails assigns revokes part number .0 e), found)
+    where
+      assigns : TypingVerdict
+      assigns = failingPart Part.Assign (firstAssign (subjectOf s) t)
+
+      revokes : TypingVerdict
+      revokes = failingPart Part.Revoke (firstRevoke (subjectOf s) t)
+
+      told : (assigns ≡ TypingVerdict.Fails part number) ⊎ ((assigns ≡ TypingVerdict.Accepted) × (revokes ≡ TypingVerdict.Fails part number)) → FirstRule (meaning t) (policyOf s) part number
+      told (inl e) =
+          let (same, bad) = part-fails Part.Assign assigns-exact part number .0 e in
+          subst (λ (p : Part). FirstRule (meaning t) (policyOf s) p number) same (at-assign bad)
+      told (inr (passed, e)) =
+          let (same, bad) = part-fails Part.Revoke revokes-exact part number .0 e in
+          subst (λ (p : Part). FirstRule (meaning t) (policyOf s) p number) same (at-revoke (part-accepted Part.Assign assigns-exact .0 passed) bad)
+
+      found : {p : Part} {n : ℕ} → FirstRule (meaning t) (policyOf s) p n → andThen assigns revokes ≡ TypingVerdict.Fails p n
+      found {n = n} (at-assign bad) = one-fails assigns revokes Part.Assign n .1 (inl (part-fails Part.Assign assigns-exact Part.Assign n .1 (refl, bad)))
+      found {n = n} (at-revoke pass bad) =
+          one-fails assigns revokes Part.Revoke n .1 (inr (part-accepted Part.Assign assigns-exact .1 pass, part-fails Part.Revoke revokes-exact Part.Revoke n .1 (refl, bad)))
+
+  -- The verdict is a failure exactly when that is the first in document 01's order.
+  pub unproved-first : (part : Part) (number : ℕ) → typingVerdict s t ≡ TypingVerdict.Fails part number ↔ FirstFailure (meaning t) (policyOf s) (s .holdings) part number
+  unfolding typingVerdict judgedTyping rulesVerdict subjectOf policyOf firstHolding firstGoal
+  unproved-first part number = (λ e. told (one-fails users after-users part number .0 e), found)
+    where
+      users : TypingVerdict
+      users = failingPart Part.Holdings (firstHolding (subjectOf s) t)
+
+      rules : TypingVerdict
+      rules = rulesVerdict s t
+
+      goals : TypingVerdict
+      goals = failingPart Part.Goal (firstGoal (subjectOf s) t)
+
+      after-users : TypingVerdict
+      after-users = andThen rules goals
+
+      later-part : HoldingsPass (meaning t) (s .holdings) → (rules ≡ TypingVerdict.Fails part number) ⊎ ((rules ≡ TypingVerdict.Accepted) × (goals ≡ TypingVerdict.Fails part number)) → FirstFailure (meaning t) (policyOf s) (s .holdings) part number
+      later-part pass (inl e) = at-rule pass (rules-first part number .0 e)
+      later-part pass (inr (passed, e)) =
+          let (same, bad) = part-fails Part.Goal goals-exact part number .0 e in
+          subst (λ (p : Part). FirstFailure (meaning t) (policyOf s) (s .holdings) p number) same (at-goal pass (rules-accepted .0 passed) bad)
+
+      told : (users ≡ TypingVerdict.Fails part number) ⊎ ((users ≡ TypingVerdict.Accepted) × (after-users ≡ TypingVerdict.Fails part number)) → FirstFailure (meaning t) (policyOf s) (s .holdings) part number
+      told (inl e) =
+          let (same, bad) = part-fails Part.Holdings persons-exact part number .0 e in
+          subst (λ (p : Part). FirstFailure (meaning t) (policyOf s) (s .holdings) p number) same (at-holdings bad)
+      told (inr (passed, e)) = later-part (holdings-accepted .0 passed) (one-fails rules goals part number .0 e)
+
+      found : {p : Part} {n : ℕ} → FirstFailure (meaning t) (policyOf s) (s .holdings) p n → andThen users after-users ≡ TypingVerdict.Fails p n
+      found {n = n} (at-holdings bad) = one-fails users after-users Part.Holdings n .1 (inl (part-fails Part.Holdings persons-exact Part.Holdings n .1 (refl, bad)))
+      found {p = p} {n = n} (at-rule pass bad) = one-fails users after-users p n .1 (inr (holdings-accepted .1 pass, one-fails rules goals p n .1 (inl (rules-first p n .1 bad))))
+      found {n = n} (at-goal pass passed bad) =
+          one-fails users after-users Part.Goal n .1
+          (inr (holdings-accepted .1 pass, one-fails rules goals Part.Goal n .1 (inr (rules-accepted .1 passed, part-fails Part.Goal goals-exact Part.Goal n .1 (refl, bad)))))

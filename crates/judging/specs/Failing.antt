@@ -1,0 +1,110 @@
+-- The first that fails: what its number says, and that 0 says that all pass.
+use Prim.Native.Nat.{ℕ, suc, _+_}
+use mathlib.Core.Bool.{Bool, true, false, false≢true}
+use mathlib.Core.List.{List, [], _∷_, _++_, List·Memᴰ as Listed, List·Memᴰ·head as first, List·Memᴰ·tail as later, List·Memᴰ·not-nil, List·Memᴰ·cases-cons, Memᴰ·append-left, Memᴰ·append-right}
+use mathlib.Core.Logic.{_↔_, ⊎-elim}
+use mathlib.Core.Path.{_≡_, refl, sym, ap, subst⁻¹, _∙_}
+use lib.ListN.{length}
+use native.Mathlib.Omega.{arith}
+use Rattle.judging.specs.Verdict.{firstFrom, firstFailing}
+use Rattle.judging.specs.First.{from-passes, from-fails}
+
+-- The first element of a list that is not good has this number, from 1: all before it are good.
+pub record FirstBad {A : Type 0} (Good : A → Type 0) (xs : List A) (number : ℕ) : Type 0 where
+  pub before : List A
+  pub element : A
+  pub after : List A
+  pub listed : xs ≡ before ++ element ∷ after
+  pub numbered : number ≡ length before + 1
+  pub good : (x : A) → Listed x before → Good x
+  pub bad : Good element → ⊥
+
+-- What is good by one reading is good by another.
+pub first-bad-by : {A : Type 0} {Good Fine : A → Type 0} {xs : List A} {number : ℕ} → ((x : A) → Listed x xs → Good x ↔ Fine x) → FirstBad Good xs number → FirstBad Fine xs number
+first-bad-by {A} {Good} {Fine} {xs} same f = record {
+  before = f .before;
+  element = f .element;
+  after = f .after;
+  listed = f .listed;
+  numbered = f .numbered;
+  good = λ x m. same x (here x (Memᴰ·append-left (f .element ∷ f .after) m)) .0 (f .good x m);
+  bad = λ fine. f .bad (same (f .element) (here (f .element) (Memᴰ·append-right (f .before) (first refl))) .1 fine);
+}
+  where
+    here : (x : A) → Listed x (f .before ++ f .element ∷ f .after) → Listed x xs
+    here x = subst⁻¹ (Listed x) (f .listed)
+
+module _ {A : Type 0} (test : A → Bool) where
+  -- ---- no element fails
+
+  none-each : (number : ℕ) (xs : List A) → firstFrom (suc number) test xs ≡ 0 → (x : A) → Listed x xs → test x ≡ true
+  none-each number [] none x m = absurd (List·Memᴰ·not-nil m)
+  none-each number (y ∷ ys) none x m = go (test y) refl (none-each (suc number) ys)
+    where
+      go : (b : Bool) → test y ≡ b → (firstFrom (suc (suc number)) test ys ≡ 0 → (z : A) → Listed z ys → test z ≡ true) → test x ≡ true
+      go true e rest = ⊎-elim (λ same. ap test same ∙ e) (rest (sym (from-passes test (suc number) y ys e) ∙ none) x) (List·Memᴰ·cases-cons m)
+      go false e rest = absurd (omega (arith, sym (from-fails test (suc number) y ys e) ∙ none))
+
+  each-none : (number : ℕ) (xs : List A) → ((x : A) → Listed x xs → test x ≡ true) → firstFrom number test xs ≡ 0
+  unfolding firstFrom
+  each-none number [] each = refl
+  each-none number (y ∷ ys) each = from-passes test number y ys (each y (first refl)) ∙ each-none (suc number) ys (λ x m. each x (later m))
+
+  -- The answer is 0 exactly when every element passes.
+  pub none-failing : (xs : List A) → firstFailing test xs ≡ 0 ↔ ((x : A) → Listed x xs → test x ≡ true)
+  unfolding firstFailing
+  none-failing xs = (none-each 0 xs, each-none 1 xs)
+
+  -- ---- the first that fails
+
+  abbrev Passes : A → Type 0
+  Passes x = test x ≡ true
+
+  -- one element more before it
+  one-before : {y : A} {ys : List A} {number : ℕ} → test y ≡ true → FirstBad Passes ys number → FirstBad Passes (y ∷ ys) (suc number)
+  one-before {y} {ys} passes f = record {
+    before = y ∷ f .before;
+    element = f .element;
+    after = f .after;
+    listed = ap (λ (l : List A). y ∷ l) (f .listed);
+    numbered = omega (arith, f .numbered);
+    good = λ x m. ⊎-elim (λ same. ap test same ∙ passes) (f .good x) (List·Memᴰ·cases-cons m);
+    bad = f .bad;
+  }
+
+  some-first : (start number : ℕ) (xs : List A) → firstFrom (suc start) test xs ≡ suc number → (n : ℕ) × (number ≡ start + n) × FirstBad Passes xs (suc n)
+  unfolding firstFrom
+  some-first start number [] some = absurd (omega (arith, some))
+  some-first start number (y ∷ ys) some = go (test y) refl (some-first (suc start) number ys)
+    where
+      go : (b : Bool) → test y ≡ b → (firstFrom (suc (suc start)) test ys ≡ suc number → (n : ℕ) × (number ≡ suc start + n) × FirstBad Passes ys (suc n)) → (n : ℕ) × (number ≡ start + n) × FirstBad Passes (y ∷ ys) (suc n)
+      go true e rest =
+          let (n, far, found) = rest (sym (from-passes test (suc start) y ys e) ∙ some) in
+          (suc n, omega (arith, far), one-before e found)
+      go false e rest = (
+        0,
+        omega (arith, sym (from-fails test (suc start) y ys e) ∙ some),
+        record { before = []; element = y; after = ys; listed = refl; numbered = refl; good = λ x m. absurd (List·Memᴰ·not-nil m); bad = λ passes. false≢true (sym e ∙ passes) },
+      )
+
+  first-some : (start : ℕ) (before : List A) (element : A) (after : List A) → ((x : A) → Listed x before → test x ≡ true) → test element ≡ false → firstFrom start test (before ++ element ∷ after) ≡ length before + start
+  first-some start [] element after good bad = from-fails test start element after bad ∙ omega arith
+  first-some start (y ∷ ys) element after good bad =
+      from-passes test start y (ys ++ element ∷ after) (good y (first refl)) ∙ first-some (suc start) ys element after (λ x m. good x (later m)) bad ∙ omega arith
+
+  -- The answer is a number above 0 exactly when the element of that number fails and those before it pass.
+  pub first-failing : (number : ℕ) (xs : List A) → firstFailing test xs ≡ suc number ↔ FirstBad (λ x. test x ≡ true) xs (suc number)
+  unfolding firstFailing
+  first-failing number xs = (told, found)
+    where
+      told : firstFrom 1 test xs ≡ suc number → FirstBad Passes xs (suc number)
+      told some =
+          let (n, same, f) = some-first 0 number xs some in
+          subst⁻¹ (λ (k : ℕ). FirstBad Passes xs (suc k)) (same ∙ omega arith) f
+
+      failed : (b : Bool) → (b ≡ true → ⊥) → b ≡ false
+      failed true none = absurd (none refl)
+      failed false none = refl
+
+      found : FirstBad Passes xs (suc number) → firstFrom 1 test xs ≡ suc number
+      found f = ap (firstFrom 1 test) (f .listed) ∙ first-some 1 (f .before) (f .element) (f .after) (f .good) (failed (test (f .element)) (f .bad)) ∙ sym (f .numbered)

@@ -1,0 +1,8 @@
+-- The verdict on a typing, and that it is exact.
+pub mod Verdict
+pub mod First
+pub mod Failing
+pub mod Order
+pub mod Layout
+pub mod Exact
+pub mod Worked

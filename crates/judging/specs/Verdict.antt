@@ -1,0 +1,111 @@
+-- The verdict on a typing, part by part in document 01's order, with the number of the first that fails; and pinned.
+use Prim.Native.Nat.{ℕ, zero, suc, _+_, min}
+use mathlib.Core.Bool.{Bool, cond}
+use mathlib.Core.List.{List, [], _∷_}
+use lib.ListN.{length, take}
+use Rattle.roles.specs.Sets.{sizeOf}
+use Rattle.model.specs.declared.Typing.{Typing as Table}
+use Rattle.model.specs.Policy.{Policy, State}
+use Rattle.model.specs.Typing.{Typing}
+use Rattle.model.specs.Meaning.{meaning}
+use Rattle.rules.specs.Tests.{personPasses, assignPasses, revokePasses, goalPasses}
+use Rattle.reading.specs.declared.policy.Policy.{Policy as Arrays}
+use Rattle.reading.specs.Policy.{Said}
+use Rattle.judging.specs.declared.Part.{Part}
+use Rattle.judging.specs.declared.TypingVerdict.{TypingVerdict}
+
+-- ---- the first that fails
+
+-- The number of the first element that fails the test, where the list's own first element has the given number; 0 where all pass.
+unfoldable pub firstFrom {ℓ} : {A : Type ℓ} → ℕ → (A → Bool) → List A → ℕ
+firstFrom number test [] = 0
+firstFrom number test (x ∷ xs) = cond (test x) (firstFrom (suc number) test xs) number
+
+-- The number, from 1, of the first element that fails the test; 0 where all pass.
+unfoldable pub firstFailing {ℓ} : {A : Type ℓ} → (A → Bool) → List A → ℕ
+firstFailing test xs = firstFrom 1 test xs
+
+-- ---- what a typing is judged on
+
+-- How many roles there are, the initial holdings, and the rules and goals.
+pub record Subject : Type 0 where
+  pub roles : ℕ
+  pub holdings : State
+  pub policy : Policy
+
+-- The rules and goals that a policy text says.
+unfoldable pub policyOf : Said → Policy
+policyOf s = record { assigns = s .assigns; revokes = s .revokes; goals = s .goals }
+
+unfoldable pub subjectOf : Said → Subject
+subjectOf s = record { roles = length (s .roles); holdings = s .holdings; policy = policyOf s }
+
+-- Of a policy in arrays: as many elements of each array as its count says, and at most all of them.
+unfoldable pub subjectIn : Arrays → Subject
+subjectIn p = record {
+  roles = p .counts .roles;
+  holdings = take (min (p .counts .users) 64) (p .persons);
+  policy = record {
+    assigns = take (min (p .counts .assigns) 256) (p .assigns);
+    revokes = take (min (p .counts .revokes) 256) (p .revokes);
+    goals = take (min (p .counts .goals) 32) (p .goals);
+  };
+}
+
+-- ---- the verdict
+
+-- The first user whose holdings fail, and the first assign rule, revoke rule and goal that fails.
+unfoldable pub firstHolding : Subject → Table → ℕ
+firstHolding subject t = firstFailing (personPasses t (subject .roles)) (subject .holdings)
+
+unfoldable pub firstAssign : Subject → Table → ℕ
+firstAssign subject t = firstFailing (assignPasses t (subject .roles)) (subject .policy .assigns)
+
+unfoldable pub firstRevoke : Subject → Table → ℕ
+firstRevoke subject t = firstFailing (revokePasses t (subject .roles)) (subject .policy .revokes)
+
+unfoldable pub firstGoal : Subject → Table → ℕ
+firstGoal subject t = firstFailing (goalPasses t (subject .roles)) (subject .policy .goals)
+
+-- The verdict on one part, by the number of its first failure.
+unfoldable pub failingPart : Part → ℕ → TypingVerdict
+failingPart part zero = TypingVerdict.Accepted
+failingPart part (suc number) = TypingVerdict.Fails part (suc number)
+
+-- A verdict, and where it is accepted the next one.
+unfoldable pub andThen : TypingVerdict → TypingVerdict → TypingVerdict
+andThen TypingVerdict.Accepted next = next
+andThen (TypingVerdict.Fails part number) next = TypingVerdict.Fails part number
+
+-- Assign rules, then revoke rules.
+unfoldable pub judgedRules : Subject → Table → TypingVerdict
+judgedRules subject t = andThen (failingPart Part.Assign (firstAssign subject t)) (failingPart Part.Revoke (firstRevoke subject t))
+
+-- Holdings, assign rules, revoke rules, then goals.
+unfoldable pub judgedTyping : Subject → Table → TypingVerdict
+judgedTyping subject t = andThen (failingPart Part.Holdings (firstHolding subject t)) (andThen (judgedRules subject t) (failingPart Part.Goal (firstGoal subject t)))
+
+-- The verdict of a typing on the rules of a policy text alone, and on the whole policy.
+unfoldable pub rulesVerdict : Said → Table → TypingVerdict
+rulesVerdict s t = judgedRules (subjectOf s) t
+
+unfoldable pub typingVerdict : Said → Table → TypingVerdict
+typingVerdict s t = judgedTyping (subjectOf s) t
+
+-- The parts by their number in document 01's order.
+abbrev pub partNumber : Part → ℕ
+partNumber Part.Holdings = 1
+partNumber Part.Assign = 2
+partNumber Part.Revoke = 3
+partNumber Part.Goal = 4
+
+-- ---- pinned
+
+-- How many names stand in the plus and minus sets of the roles below a number.
+unfoldable pub pinnedBelow : ℕ → Typing → ℕ
+pinnedBelow zero Γ = 0
+pinnedBelow (suc n) Γ = pinnedBelow n Γ + (sizeOf (Γ .plus n) + sizeOf (Γ .minus n))
+
+-- The number of names in all plus and minus sets. There are at most 128 roles.
+unfoldable pub pinnedNames : Table → ℕ → ℕ
+pinnedNames t roles = pinnedBelow (min roles 128) (meaning t)
