@@ -1,7 +1,7 @@
 -- Worked texts, computed from raw bytes: the desk policy, an empty text, a missing `end`, a last line without LF, a byte after `end`.
 use Prim.Native.Nat.{ℕ, _+_}
 use mathlib.Core.Bool.{Bool, true, false}
-use mathlib.Core.List.{List, [], _∷_, _++_}
+use mathlib.Core.List.{List, [], _∷_, _++_, map}
 use mathlib.Core.Path.{_≡_, refl}
 use Rattle.roles.specs.declared.RoleSet.{RoleSet}
 use Rattle.roles.specs.Sets.{bit, emptySet, hasRole, singleOf, unionOf, withOf}
@@ -29,14 +29,20 @@ abbrev summary : Reading Said → List ℕ
 summary (read s) = 0 ∷ countsOf s .roles ∷ countsOf s .users ∷ countsOf s .assigns ∷ countsOf s .revokes ∷ countsOf s .goals ∷ []
 summary (refused number line) = number ∷ line ∷ []
 
--- each text with what reading it gives
-record Worked (text : List ℕ) (gives : List ℕ) : Type 0 where
-  holds : summary (readPolicy text) ≡ gives
-
-desk-is-read : Worked (desk ++ bytes "end\n") (0 ∷ 3 ∷ 2 ∷ 2 ∷ 0 ∷ 1 ∷ [])
+-- each text, and below it what reading it gives
+pub worked-texts :
+    map (λ (text : List ℕ). summary (readPolicy text))
+    ((desk ++ bytes "end\n")
+    ∷ []
+    ∷ desk
+    ∷ (desk ++ bytes "end")
+    ∷ (desk ++ bytes "end\nx")
+    ∷ [])
+    ≡ ((0 ∷ 3 ∷ 2 ∷ 2 ∷ 0 ∷ 1 ∷ [])
+    ∷ (11 ∷ 1 ∷ [])
+    ∷ (11 ∷ 11 ∷ [])
+    ∷ (11 ∷ 11 ∷ [])
+    ∷ (11 ∷ 12 ∷ [])
+    ∷ [])
 unfolding reading
-desk-is-read = record { holds = refl }
-
-empty : Worked [] (11 ∷ 1 ∷ [])
-unfolding reading
-empty = record { holds = refl }
+worked-texts = refl

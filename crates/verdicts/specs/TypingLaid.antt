@@ -1,0 +1,180 @@
+-- A typing that is read is laid out over the policy's roles: L and the empty sets stand past them, and the sets are words of 64 bits.
+use Prim.Native.Nat.{ℕ, zero, suc, _+_, _-_, _≤_, _<_}
+use mathlib.Core.Bool.{Bool, true, false, _&&_, and-eq-true-iff}
+use mathlib.Core.List.{List, [], _∷_, _++_, List·Memᴰ as Listed, List·Memᴰ·not-nil as not-nil}
+use mathlib.Core.Path.{_≡_, refl, subst, subst⁻¹, _∙_}
+use borrow.Author.Tests.{leb-true, eqb-true}
+use lib.Dec.{leb, eqb}
+use lib.ListN.{length, getD, replicate, length-append, List·getD-eq-default}
+use native.Mathlib.Decide.{decLt}
+use native.Mathlib.Omega.{arith}
+use Rattle.roles.specs.declared.RoleSet.{RoleSet}
+use Rattle.roles.specs.Sets.{emptySet}
+use Rattle.roles.specs.Members.{Sized, empty-sized}
+use Rattle.model.specs.Policy.{L}
+use Rattle.model.specs.Meaning.{meaning}
+use Rattle.rules.specs.Exact.{Laid}
+use Rattle.text.specs.declared.Name.{Name}
+use Rattle.text.specs.Forms.{bytes, isName, isSet, isLabel}
+use Rattle.text.specs.Pieces.{split, sameBytes}
+use Rattle.reading.specs.Texts.{goes, ends, bad, read}
+use Rattle.reading.specs.Fields.{rolesOf}
+use Rattle.reading.specs.Policy.{padded}
+use Rattle.reading.specs.Kept.{text-keeps}
+use Rattle.steps.specs.Places.{at-listed}
+use Rattle.evidence.specs.declared.typing.TypingEntry.{TypingEntry}
+use Rattle.evidence.specs.declared.typing.TypingLine.{TypingLine}
+use Rattle.evidence.specs.Turns.{turnOf}
+use Rattle.evidence.specs.TypingLines.{Line, header, row, end, other, lineOf, wellFormed, named, entry, answerTo, judged, typingLine}
+use Rattle.evidence.specs.TypingText.{Typed, untyped, added, answered, judgeLine, readTyping, tableOf}
+use Rattle.evidence.specs.TypingReached.{Rowed}
+use Rattle.verdicts.specs.Sizes.{roles-sized, each-more}
+
+-- As many labels and sets as rows, no more rows than roles, and the sets are words of 64 bits.
+pub record Rows (roles : ℕ) (t : Typed) : Type 0 where
+  pub rowed : Rowed t
+  pub most : t .stage ≤ suc roles
+  pub plus : (s : RoleSet) → Listed s (t .plus) → Sized s
+  pub minus : (s : RoleSet) → Listed s (t .minus) → Sized s
+
+-- ---- what a good line keeps
+
+-- a good line is well formed and says what its fields say
+answer-good : (formed known : Bool) (e e′ : TypingEntry) → answerTo (turnOf formed known) e ≡ TypingLine.Good e′ → (formed ≡ true) × (e ≡ e′)
+unfolding answerTo turnOf
+answer-good true true e e′ good = (refl, cc)
+answer-good true false e e′ good = absurd (let z : _≡_ {A = ℕ} 0 1 = cc in omega arith)
+answer-good false known e e′ good = absurd (let z : _≡_ {A = ℕ} 0 1 = cc in omega arith)
+
+line-good : (stage : ℕ) (names : List Name) (line : List ℕ) {e : TypingEntry} → typingLine stage names line ≡ TypingLine.Good e
+    → (wellFormed stage (length names) (lineOf (split 9 line)) ≡ true) × (entry names (lineOf (split 9 line)) ≡ e)
+unfolding typingLine judged
+line-good stage names line {e} good =
+    answer-good (wellFormed stage (length names) (lineOf (split 9 line))) (named stage names (lineOf (split 9 line))) (entry names (lineOf (split 9 line))) e good
+
+goes-one : {s t : Typed} → goes s ≡ goes t → s ≡ t
+goes-one e = cc
+
+goes-ends : {t : Typed} → ends ≡ goes t → ⊥
+goes-ends e = let z : _≡_ {A = ℕ} 0 1 = cc in omega arith
+
+goes-bad : {number : ℕ} {t : Typed} → bad number ≡ goes t → ⊥
+goes-bad e = let z : _≡_ {A = ℕ} 0 1 = cc in omega arith
+
+-- a row stands after the header and before the end of the roles
+row-stage : (stage : ℕ) (names : List Name) (name label plus minus : List ℕ) → wellFormed stage (length names) (row name label plus minus) ≡ true → (1 ≤ stage) × (stage ≤ length names)
+unfolding wellFormed
+row-stage stage names name label plus minus formed =
+    let four = and-eq-true-iff (((leb 1 stage && leb stage (length names)) && isName name) && isLabel label) (isSet plus && isSet minus) .0 formed .0 in
+    let three = and-eq-true-iff ((leb 1 stage && leb stage (length names)) && isName name) (isLabel label) .0 four .0 in
+    let two = and-eq-true-iff (leb 1 stage && leb stage (length names)) (isName name) .0 three .0 in
+    let both = and-eq-true-iff (leb 1 stage) (leb stage (length names)) .0 two in
+    (leb-true 1 stage (both .0), leb-true stage (length names) (both .1))
+
+header-stage : (stage : ℕ) (names : List Name) (edition : List ℕ) → wellFormed stage (length names) (header edition) ≡ true → stage ≡ 0
+unfolding wellFormed
+header-stage stage names edition formed = eqb-true stage 0 (and-eq-true-iff (eqb stage 0) (sameBytes edition (bytes "1")) .0 formed .0)
+
+entry-rows : (names : List Name) (s t : Typed) (line : Line) → wellFormed (s .stage) (length names) line ≡ true → added s (entry names line) ≡ goes t → Rows (length names) s → Rows (length names) t
+unfolding added entry
+entry-rows names s t (header edition) formed is rows =
+    let start = header-stage (s .stage) names edition formed in
+    subst (Rows (length names)) (goes-one is) (record {
+      rowed = record {
+        labels = omega (arith, start, rows .rowed .labels);
+        plus = omega (arith, start, rows .rowed .plus);
+        minus = omega (arith, start, rows .rowed .minus);
+      };
+      most = omega arith;
+      plus = rows .plus;
+      minus = rows .minus;
+    })
+entry-rows names s t (row name label plus minus) formed is rows = subst (Rows (length names)) (goes-one is) (record {
+  rowed = record {
+    labels = longer (length-append (s .labels) (sameBytes label (bytes "H") ∷ [])) (rows .rowed .labels);
+    plus = longer (length-append (s .plus) (rolesOf names plus ∷ [])) (rows .rowed .plus);
+    minus = longer (length-append (s .minus) (rolesOf names minus ∷ [])) (rows .rowed .minus);
+  };
+  most = omega (arith, here .1);
+  plus = each-more Sized (s .plus) (rows .plus) (roles-sized names plus);
+  minus = each-more Sized (s .minus) (rows .minus) (roles-sized names minus);
+})
+  where
+    here : (1 ≤ s .stage) × (s .stage ≤ length names)
+    here = row-stage (s .stage) names name label plus minus formed
+
+    longer : {n m : ℕ} → n ≡ m + 1 → m ≡ s .stage - 1 → n ≡ suc (s .stage) - 1
+    longer more many = omega (arith, here .0)
+entry-rows names s t end formed is rows = absurd (goes-ends is)
+entry-rows names s t other formed is rows = absurd (goes-ends is)
+
+line-rows : (names : List Name) (s t : Typed) (line : List ℕ) → judgeLine names s line ≡ goes t → Rows (length names) s → Rows (length names) t
+unfolding judgeLine answered
+line-rows names s t line is rows = go (typingLine (s .stage) names line) refl is
+  where
+    go : (a : TypingLine) → typingLine (s .stage) names line ≡ a → answered s a ≡ goes t → Rows (length names) t
+    go (TypingLine.Good e) told leads =
+        let (formed, says) = line-good (s .stage) names line told in
+        entry-rows names s t (lineOf (split 9 line)) formed (subst⁻¹ (λ (x : TypingEntry). added s x ≡ goes t) says leads) rows
+    go (TypingLine.Bad number) told leads = absurd (goes-bad leads)
+
+untyped-rows : (roles : ℕ) → Rows roles untyped
+unfolding untyped
+untyped-rows roles = record {
+  rowed = record { labels = refl; plus = refl; minus = refl };
+  most = omega arith;
+  plus = λ s m. absurd (not-nil m);
+  minus = λ s m. absurd (not-nil m);
+}
+
+pub read-rows : (names : List Name) (text : List ℕ) {t : Typed} → readTyping names text ≡ read t → Rows (length names) t
+unfolding readTyping
+read-rows names text {t} is = text-keeps (judgeLine names) 15 (Rows (length names)) (line-rows names) 14 untyped t text is (untyped-rows (length names))
+
+-- ---- what the arrays mean
+
+-- an array filled with what is read past its end reads as the list that is laid out
+same-filling : {A : Type 0} (xs : List A) (more : ℕ) (filling : A) (i : ℕ) → getD (xs ++ replicate more filling) i filling ≡ getD xs i filling
+same-filling [] zero filling i = refl
+same-filling [] (suc more) filling zero = refl
+same-filling [] (suc more) filling (suc i) = same-filling [] more filling i
+same-filling (x ∷ xs) more filling zero = refl
+same-filling (x ∷ xs) more filling (suc i) = same-filling xs more filling i
+
+pub label-read : (t : Typed) (role : ℕ) → meaning (tableOf t) .label role ≡ getD (t .labels) role L
+unfolding meaning tableOf padded
+label-read t role = same-filling (t .labels) (128 - length (t .labels)) false role
+
+pub plus-read : (t : Typed) (role : ℕ) → meaning (tableOf t) .plus role ≡ getD (t .plus) role emptySet
+unfolding meaning tableOf padded
+plus-read t role = same-filling (t .plus) (128 - length (t .plus)) emptySet role
+
+pub minus-read : (t : Typed) (role : ℕ) → meaning (tableOf t) .minus role ≡ getD (t .minus) role emptySet
+unfolding meaning tableOf padded
+minus-read t role = same-filling (t .minus) (128 - length (t .minus)) emptySet role
+
+-- every set that is read off a list of sized sets is sized
+at-sized : (sets : List RoleSet) → ((s : RoleSet) → Listed s sets → Sized s) → (role : ℕ) → Sized (getD sets role emptySet)
+at-sized sets each role = go (decLt role (length sets))
+  where
+    go : Dec (role < length sets) → Sized (getD sets role emptySet)
+    go (yes here) = each (getD sets role emptySet) (at-listed emptySet sets role here)
+    go (no past) = subst⁻¹ Sized (List·getD-eq-default sets emptySet (omega arith)) empty-sized
+
+-- The typing that is read is laid out over the policy's roles.
+pub read-laid : (names : List Name) (text : List ℕ) {t : Typed} → readTyping names text ≡ read t → length names ≤ 128 → Laid (tableOf t) (length names)
+read-laid names text {t} is few = record {
+  fits = record {
+    limit = few;
+    sized = record {
+      plus = λ role. subst⁻¹ Sized (plus-read t role) (at-sized (t .plus) (rows .plus) role);
+      minus = λ role. subst⁻¹ Sized (minus-read t role) (at-sized (t .minus) (rows .minus) role);
+    };
+    plus-past = λ role past. plus-read t role ∙ List·getD-eq-default (t .plus) emptySet (omega (arith, rows .most, rows .rowed .plus, past));
+    minus-past = λ role past. minus-read t role ∙ List·getD-eq-default (t .minus) emptySet (omega (arith, rows .most, rows .rowed .minus, past));
+  };
+  low-past = λ role past. label-read t role ∙ List·getD-eq-default (t .labels) L (omega (arith, rows .most, rows .rowed .labels, past));
+}
+  where
+    rows : Rows (length names) t
+    rows = read-rows names text is

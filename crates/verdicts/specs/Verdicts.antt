@@ -1,0 +1,39 @@
+-- The verdict on a policy text and a typing text over its roles is exact, and an accepted typing is safe.
+use Prim.Native.Nat.{ℕ}
+use mathlib.Core.List.{List}
+use mathlib.Core.Logic.{_↔_}
+use mathlib.Core.Path.{_≡_}
+use lib.ListN.{length}
+use Rattle.model.specs.Policy.{State, Run, Bad}
+use Rattle.model.specs.Typing.{Accepted}
+use Rattle.model.specs.Meaning.{meaning}
+use Rattle.model.specs.Safety.{Attack, accepted-safe, never-both}
+use Rattle.rules.specs.Exact.{Laid}
+use Rattle.reading.specs.Texts.{read}
+use Rattle.reading.specs.Policy.{Said, readPolicy}
+use Rattle.reading.specs.Kept.{read-bounded}
+use Rattle.evidence.specs.TypingText.{Typed, readTyping, tableOf}
+use Rattle.judging.specs.declared.TypingVerdict.{TypingVerdict}
+use Rattle.judging.specs.Verdict.{policyOf, typingVerdict}
+use Rattle.judging.specs.Exact.{typing-accepted}
+use Rattle.verdicts.specs.PolicySized.{read-sized}
+use Rattle.verdicts.specs.TypingLaid.{read-laid}
+
+-- A typing text that is read over the roles of a policy text that is read is laid out over them.
+pub texts-laid : (policy typing : List ℕ) {s : Said} {t : Typed} → readPolicy policy ≡ read s → readTyping (s .roles) typing ≡ read t → Laid (tableOf t) (length (s .roles))
+texts-laid policy typing {s} is over = read-laid (s .roles) typing over (read-bounded policy s is .roles)
+
+-- The verdict is accepted exactly when the typing is accepted.
+pub safe-exact : (policy typing : List ℕ) {s : Said} {t : Typed} → readPolicy policy ≡ read s → readTyping (s .roles) typing ≡ read t
+    → typingVerdict s (tableOf t) ≡ TypingVerdict.Accepted ↔ Accepted (meaning (tableOf t)) (policyOf s) (s .holdings)
+safe-exact policy typing is over = typing-accepted (read-sized policy is) (texts-laid policy typing is over)
+
+-- Where the verdict is accepted, no run from the policy's holdings reaches a bad state.
+pub safe-texts : (policy typing : List ℕ) {s : Said} {t : Typed} → readPolicy policy ≡ read s → readTyping (s .roles) typing ≡ read t
+    → typingVerdict s (tableOf t) ≡ TypingVerdict.Accepted → {τ : State} → Run (policyOf s) (s .holdings) τ → Bad (policyOf s .goals) τ → ⊥
+safe-texts policy typing is over accepted run bad = accepted-safe (safe-exact policy typing is over .0 accepted) run bad
+
+-- Where the verdict is accepted, the policy has no run to a bad state to show.
+pub never-both-texts : (policy typing : List ℕ) {s : Said} {t : Typed} → readPolicy policy ≡ read s → readTyping (s .roles) typing ≡ read t
+    → typingVerdict s (tableOf t) ≡ TypingVerdict.Accepted → Attack (policyOf s) (s .holdings) → ⊥
+never-both-texts policy typing is over accepted attack = never-both (safe-exact policy typing is over .0 accepted) attack
