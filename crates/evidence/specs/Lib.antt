@@ -8,3 +8,5 @@ pub mod TraceText
 pub mod TraceReached
 pub mod Place
 pub mod PlaceLaws
+pub mod Exact
+pub mod Worked
