@@ -1,0 +1,320 @@
+-- `run_trace` goes from line to line: the steps so far run to the state that the array holds, and the rest of the text decides.
+use Prim.Native.Nat.{ℕ, _+_, _-_, _<_}
+use borrow.Author.Needs.{needs}
+use lib.ListN.{length, length-map}
+use mathlib.Core.Path.{_≡_, sym, ap, _∙_}
+use native.Mathlib.Omega.{arith}
+use Rattle.model.specs.Policy.{nobody}
+use Rattle.roles.specs.Sets.{emptySet}
+use Rattle.evidence.specs.TraceText.{codeOf}
+use Rattle.evidence.specs.declared.trace.TraceEntry.{TraceEntry}
+use Rattle.evidence.specs.declared.trace.TraceLine.{TraceLine}
+use Rattle.steps.specs.declared.Step.{Step}
+use Rattle.steps.specs.Traces.{assignAt, revokeAt}
+use Rattle.running.specs.Range.{InRange, within}
+use Rattle.running.specs.Reached.{Reached, stateIn, refused-long, reached-start, reached-end, reached-tail, line-refused, line-header, step-passed, assign-range, assign-goes, assign-breaks, revoke-range, revoke-goes, revoke-breaks, line-last, line-more}
+use Rattle.running.specs.declared.TraceVerdict.{TraceVerdict}
+use Rattle.running.proofs.run_trace.Statement.{statement}
+use Rattle.running.proofs.run_trace.Tie as tie
+
+abbrev Inv-loop : tie.InvT-loop
+Inv-loop text p end c goals persons₀ started₀ steps₀ broken₀ at₀ number₀ persons started steps broken at number = Reached p text at number started steps broken persons
+
+abbrev μ-loop : tie.MeasureT-loop
+μ-loop text p end c goals persons₀ started₀ steps₀ broken₀ at₀ number₀ persons started steps broken at number = length text - at
+
+-- after a line was read: it ends within the text
+inside : (c : tie.After-read-line Inv-loop μ-loop) → c .before .before .before .before .before .before .seek .result < length (c .before .before .before .before .before .before .before .before .before .before .before .before .before .before .args .text .now)
+inside c = omega (arith, c .before .before .before .before .before .before .seek .ensures, c .before .before .before .before .before .if2 .left)
+
+-- and the measure falls with the next
+nearer : (c : tie.After-read-line Inv-loop μ-loop) → length (c .before .before .before .before .before .before .before .before .before .before .before .before .before .before .args .text .now) - (c .before .before .before .before .before .before .seek .result + 1) < length (c .before .before .before .before .before .before .before .before .before .before .before .before .before .before .args .text .now) - c .before .before .before .before .before .before .before .before .loop .at
+nearer c = omega (arith, c .before .before .before .before .before .before .seek .ensures, c .before .before .before .before .before .before .before .loop-test .taken)
+
+-- after an assign step was taken apart: what the line says, and that its places are in range
+assign-said : (c : tie.After-known-told3 Inv-loop μ-loop)
+    → c .before .before .before .before .before .before .before .before .before .before .read-line .result ≡ TraceLine.Good (TraceEntry.Step (Step.Assign (c .before .step .given .0 .0) (c .before .step .given .0 .1 .0) (c .before .step .given .0 .1 .1 .0)))
+assign-said c = c .before .before .before .before .before .before .before .before .answer .given .1 ∙ ap TraceLine.Good (c .before .before .before .before .before .entry .given .1 ∙ ap TraceEntry.Step (c .before .step .given .1))
+
+assign-places : (c : tie.After-known-told3 Inv-loop μ-loop) → InRange 256 64 (c .before .step .given .0 .0) (c .before .step .given .0 .1 .0) (c .before .step .given .0 .1 .1 .0)
+assign-places c =
+    let line = c .before .before .before .before .before .before .before .before .before .before in
+    let known = assign-range (line .before .before .before .before .before .before .before .before .loop .inv) (line .before .before .before .before .before .before .seek .ensures) (inside line) (line .read-line .ensures) (assign-said c) in
+    within known (line .before .before .before .before .before .before .before .before .before .before .before .before .before .before .pre .assigns) (line .before .before .before .before .before .before .before .before .before .before .before .before .before .before .pre .users)
+
+-- a revoke step likewise
+revoke-said : (c : tie.After-known-told4 Inv-loop μ-loop)
+    → c .before .before .before .before .before .before .before .before .before .before .read-line .result ≡ TraceLine.Good (TraceEntry.Step (Step.Revoke (c .before .step2 .given .0 .0) (c .before .step2 .given .0 .1 .0) (c .before .step2 .given .0 .1 .1 .0)))
+revoke-said c = c .before .before .before .before .before .before .before .before .answer .given .1 ∙ ap TraceLine.Good (c .before .before .before .before .before .entry .given .1 ∙ ap TraceEntry.Step (c .before .step2 .given .1))
+
+revoke-places : (c : tie.After-known-told4 Inv-loop μ-loop) → InRange 256 64 (c .before .step2 .given .0 .0) (c .before .step2 .given .0 .1 .0) (c .before .step2 .given .0 .1 .1 .0)
+revoke-places c =
+    let line = c .before .before .before .before .before .before .before .before .before .before in
+    let known = revoke-range (line .before .before .before .before .before .before .before .before .loop .inv) (line .before .before .before .before .before .before .seek .ensures) (inside line) (line .read-line .ensures) (revoke-said c) in
+    within known (line .before .before .before .before .before .before .before .before .before .before .before .before .before .before .pre .revokes) (line .before .before .before .before .before .before .before .before .before .before .before .before .before .before .pre .users)
+
+returns : tie.Need-returns Inv-loop μ-loop
+returns c = refused-long _ _ (c .if1 .taken)
+
+loop-holds : tie.Need-loop-holds Inv-loop μ-loop
+loop-holds c =
+    let start = c .before .before .before .before .before in
+    reached-start _ _ (record {
+      counts = start .pre;
+      persons = simp length-map at (start .good .1 .0 .1 .1 .1 .1 .0 .1 .0 .1);
+      assigns = simp length-map at (start .good .1 .0 .1 .1 .1 .1 .1 .0 .1 .0 .1);
+      revokes = simp length-map at (start .good .1 .0 .1 .1 .1 .1 .1 .1 .0 .1 .0 .1);
+    }) (c .before .before .before .if1 .left)
+
+seek-requires : tie.Need-seek-requires Inv-loop μ-loop
+seek-requires c κs = search needs
+
+returns-2 : tie.Need-returns-2 Inv-loop μ-loop
+returns-2 c = reached-tail (c .before .before .before .loop .inv) (c .before .seek .ensures) (c .if2 .taken)
+
+sub-read-line : tie.Need-sub-read-line Inv-loop μ-loop
+sub-read-line c = omega (arith, c .before .seek .ensures)
+
+part-read-line-start : tie.Need-part-read-line-start Inv-loop μ-loop
+part-read-line-start c = search needs
+
+part-read-line-end : tie.Need-part-read-line-end Inv-loop μ-loop
+part-read-line-end c = search needs
+
+read-line-requires : tie.Need-read-line-requires Inv-loop μ-loop
+read-line-requires c κs = search needs
+
+add-at : tie.Need-add-at Inv-loop μ-loop
+add-at c = omega (arith, c .before .before .before .before .before .before .seek .ensures, (c .before .before .before .before .before .before .before .before .loop .inv) .on .short)
+
+add-number : tie.Need-add-number Inv-loop μ-loop
+add-number c = omega (arith, (c .before .before .before .before .before .before .before .before .loop .inv) .on)
+
+enum-known-answer : tie.Need-enum-known-answer Inv-loop μ-loop
+enum-known-answer c = search needs
+
+enum-told : tie.Need-enum-told Inv-loop μ-loop
+enum-told c = search needs
+
+code-requires : tie.Need-code-requires Inv-loop μ-loop
+code-requires c κs = search needs
+
+returns-3 : tie.Need-returns-3 Inv-loop μ-loop
+unfolding codeOf
+returns-3 c =
+    let line = c .before .before .before in
+    ap (λ (k : ℕ). TraceVerdict.Refused k (line .before .before .before .before .before .before .before .before .loop .number)) (c .code .ensures ∙ ap codeOf (c .before .enum-told .given .1)) ∙ line-refused (line .before .before .before .before .before .before .before .before .loop .inv) (line .before .before .before .before .before .before .seek .ensures) (inside line) (line .read-line .ensures) (c .before .enum-told .given .1)
+
+enum-told-2 : tie.Need-enum-told-2 Inv-loop μ-loop
+enum-told-2 c = search needs
+
+loop-less : tie.Need-loop-less Inv-loop μ-loop
+loop-less c = nearer (c .before .before .before .before .before)
+
+loop-again : tie.Need-loop-again Inv-loop μ-loop
+loop-again c =
+    let line = c .before .before .before .before .before in
+    line-header (line .before .before .before .before .before .before .before .before .loop .inv) (line .before .before .before .before .before .before .seek .ensures) (inside line) (line .read-line .ensures) (c .before .before .before .answer .given .1 ∙ ap TraceLine.Good (c .enum-told2 .given .1))
+
+enum-known-entry : tie.Need-enum-known-entry Inv-loop μ-loop
+enum-known-entry c = search needs
+
+add-steps : tie.Need-add-steps Inv-loop μ-loop
+add-steps c = omega (arith, (c .before .before .before .before .before .before .before .before .before .before .before .before .before .before .loop .inv) .few, (c .before .before .before .before .before .before .before .before .before .before .before .before .before .before .loop .inv) .on)
+
+enum-known-step : tie.Need-enum-known-step Inv-loop μ-loop
+enum-known-step c = search needs
+
+mul-assign : tie.Need-mul-assign Inv-loop μ-loop
+mul-assign c = omega (arith, assign-places c)
+
+element-copy-out-assign : tie.Need-element-copy-out-assign Inv-loop μ-loop
+element-copy-out-assign c = assign-places c .ruled
+
+mul-held : tie.Need-mul-held Inv-loop μ-loop
+mul-held c = omega (arith, assign-places (c .before))
+
+array-copy-out-held : tie.Need-array-copy-out-held Inv-loop μ-loop
+array-copy-out-held c = assign-places (c .before) .used
+
+mul-may-assign : tie.Need-mul-may-assign Inv-loop μ-loop
+mul-may-assign c = omega (arith, assign-places (c .before .before))
+
+array-copy-out-may-assign : tie.Need-array-copy-out-may-assign Inv-loop μ-loop
+array-copy-out-may-assign c = assign-places (c .before .before) .acts
+
+may-assign-requires : tie.Need-may-assign-requires Inv-loop μ-loop
+may-assign-requires c κs = search needs
+
+given-requires : tie.Need-given-requires Inv-loop μ-loop
+given-requires c κs = search needs
+
+mul-persons : tie.Need-mul-persons Inv-loop μ-loop
+mul-persons c = omega (arith, assign-places (c .before .before .before .before .before .before))
+
+array-set-from-persons : tie.Need-array-set-from-persons Inv-loop μ-loop
+array-set-from-persons c = assign-places (c .before .before .before .before .before .before) .used
+
+loop-less-2 : tie.Need-loop-less-2 Inv-loop μ-loop
+loop-less-2 c = nearer (c .before .before .before .before .before .before .before .before .before .before .before .before .before .before .before .before)
+
+loop-again-2 : tie.Need-loop-again-2 Inv-loop μ-loop
+unfolding nobody emptySet assignAt
+loop-again-2 c =
+    let line = c .before .before .before .before .before .before .before .before .before .before .before .before .before .before .before .before in
+    assign-goes (line .before .before .before .before .before .before .before .before .loop .inv) (line .before .before .before .before .before .before .seek .ensures) (inside line) (line .read-line .ensures) (assign-said (c .before .before .before .before .before .before)) (c .before .before .before .before .before .before .before .before .before .if3 .taken) (c .before .before .may-assign .ensures) (c .before .if4 .taken) (c .given .ensures)
+
+loop-less-3 : tie.Need-loop-less-3 Inv-loop μ-loop
+loop-less-3 c = nearer (c .before .before .before .before .before .before .before .before .before .before .before .before .before .before .before)
+
+loop-again-3 : tie.Need-loop-again-3 Inv-loop μ-loop
+unfolding nobody emptySet assignAt
+loop-again-3 c =
+    let line = c .before .before .before .before .before .before .before .before .before .before .before .before .before .before .before in
+    assign-breaks (line .before .before .before .before .before .before .before .before .loop .inv) (line .before .before .before .before .before .before .seek .ensures) (inside line) (line .read-line .ensures) (assign-said (c .before .before .before .before .before)) (c .before .before .before .before .before .before .before .before .if3 .taken) (c .before .may-assign .ensures) (c .if4 .left)
+
+enum-known-step-2 : tie.Need-enum-known-step-2 Inv-loop μ-loop
+enum-known-step-2 c = search needs
+
+mul-revoke : tie.Need-mul-revoke Inv-loop μ-loop
+mul-revoke c = omega (arith, revoke-places c)
+
+element-copy-out-revoke : tie.Need-element-copy-out-revoke Inv-loop μ-loop
+element-copy-out-revoke c = revoke-places c .ruled
+
+mul-held-2 : tie.Need-mul-held-2 Inv-loop μ-loop
+mul-held-2 c = omega (arith, revoke-places (c .before))
+
+array-copy-out-held-2 : tie.Need-array-copy-out-held-2 Inv-loop μ-loop
+array-copy-out-held-2 c = revoke-places (c .before) .used
+
+mul-may-revoke : tie.Need-mul-may-revoke Inv-loop μ-loop
+mul-may-revoke c = omega (arith, revoke-places (c .before .before))
+
+array-copy-out-may-revoke : tie.Need-array-copy-out-may-revoke Inv-loop μ-loop
+array-copy-out-may-revoke c = revoke-places (c .before .before) .acts
+
+may-revoke-requires : tie.Need-may-revoke-requires Inv-loop μ-loop
+may-revoke-requires c κs = search needs
+
+taken-requires : tie.Need-taken-requires Inv-loop μ-loop
+taken-requires c κs = search needs
+
+mul-persons-2 : tie.Need-mul-persons-2 Inv-loop μ-loop
+mul-persons-2 c = omega (arith, revoke-places (c .before .before .before .before .before .before))
+
+array-set-from-persons-2 : tie.Need-array-set-from-persons-2 Inv-loop μ-loop
+array-set-from-persons-2 c = revoke-places (c .before .before .before .before .before .before) .used
+
+loop-less-4 : tie.Need-loop-less-4 Inv-loop μ-loop
+loop-less-4 c = nearer (c .before .before .before .before .before .before .before .before .before .before .before .before .before .before .before .before)
+
+loop-again-4 : tie.Need-loop-again-4 Inv-loop μ-loop
+unfolding nobody emptySet revokeAt
+loop-again-4 c =
+    let line = c .before .before .before .before .before .before .before .before .before .before .before .before .before .before .before .before in
+    revoke-goes (line .before .before .before .before .before .before .before .before .loop .inv) (line .before .before .before .before .before .before .seek .ensures) (inside line) (line .read-line .ensures) (revoke-said (c .before .before .before .before .before .before)) (c .before .before .before .before .before .before .before .before .before .if3 .taken) (c .before .before .may-revoke .ensures) (c .before .if5 .taken) (c .taken .ensures)
+
+loop-less-5 : tie.Need-loop-less-5 Inv-loop μ-loop
+loop-less-5 c = nearer (c .before .before .before .before .before .before .before .before .before .before .before .before .before .before .before)
+
+loop-again-5 : tie.Need-loop-again-5 Inv-loop μ-loop
+unfolding nobody emptySet revokeAt
+loop-again-5 c =
+    let line = c .before .before .before .before .before .before .before .before .before .before .before .before .before .before .before in
+    revoke-breaks (line .before .before .before .before .before .before .before .before .loop .inv) (line .before .before .before .before .before .before .seek .ensures) (inside line) (line .read-line .ensures) (revoke-said (c .before .before .before .before .before)) (c .before .before .before .before .before .before .before .before .if3 .taken) (c .before .may-revoke .ensures) (c .if5 .left)
+
+loop-less-6 : tie.Need-loop-less-6 Inv-loop μ-loop
+loop-less-6 c = nearer (c .before .before .before .before .before .before .before)
+
+loop-again-6 : tie.Need-loop-again-6 Inv-loop μ-loop
+loop-again-6 c =
+    let line = c .before .before .before .before .before .before .before in
+    step-passed (line .before .before .before .before .before .before .before .before .loop .inv) (line .before .before .before .before .before .before .seek .ensures) (inside line) (line .read-line .ensures) (c .before .before .before .before .before .answer .given .1 ∙ ap TraceLine.Good (c .before .before .entry .given .1)) (c .if3 .left)
+
+enum-told-3 : tie.Need-enum-told-3 Inv-loop μ-loop
+enum-told-3 c = search needs
+
+returns-4 : tie.Need-returns-4 Inv-loop μ-loop
+returns-4 c =
+    let line = c .before .before .before .before .before .before in
+    line-more (line .before .before .before .before .before .before .before .before .loop .inv) (line .before .before .before .before .before .before .seek .ensures) (inside line) (line .read-line .ensures) (c .before .before .before .before .answer .given .1 ∙ ap TraceLine.Good (c .before .enum-told3 .given .1)) (c .if6 .taken)
+
+first-bad-requires : tie.Need-first-bad-requires Inv-loop μ-loop
+first-bad-requires c κs = search needs
+
+ending-requires : tie.Need-ending-requires Inv-loop μ-loop
+ending-requires c κs = search needs
+
+returns-5 : tie.Need-returns-5 Inv-loop μ-loop
+unfolding stateIn
+returns-5 c =
+    let line = c .before .before .before .before .before .before .before .before in
+    line-last (line .before .before .before .before .before .before .before .before .loop .inv) (line .before .before .before .before .before .before .seek .ensures) (inside line) (line .read-line .ensures) (c .before .before .before .before .before .before .answer .given .1 ∙ ap TraceLine.Good (c .before .before .before .enum-told3 .given .1)) (c .before .before .if6 .left) (c .before .first-bad .ensures) (c .ending .ensures)
+
+returns-6 : tie.Need-returns-6 Inv-loop μ-loop
+returns-6 c = reached-end (c .before .loop .inv) (c .loop-test .left)
+
+pub run-trace-spec : {M : Type 1} → statement M
+run-trace-spec =
+    tie.close
+    (tie.spec
+    Inv-loop
+    μ-loop
+    returns
+    loop-holds
+    seek-requires
+    returns-2
+    sub-read-line
+    part-read-line-start
+    part-read-line-end
+    read-line-requires
+    add-at
+    add-number
+    enum-known-answer
+    enum-told
+    code-requires
+    returns-3
+    enum-told-2
+    loop-less
+    loop-again
+    enum-known-entry
+    add-steps
+    enum-known-step
+    mul-assign
+    element-copy-out-assign
+    mul-held
+    array-copy-out-held
+    mul-may-assign
+    array-copy-out-may-assign
+    may-assign-requires
+    given-requires
+    mul-persons
+    array-set-from-persons
+    loop-less-2
+    loop-again-2
+    loop-less-3
+    loop-again-3
+    enum-known-step-2
+    mul-revoke
+    element-copy-out-revoke
+    mul-held-2
+    array-copy-out-held-2
+    mul-may-revoke
+    array-copy-out-may-revoke
+    may-revoke-requires
+    taken-requires
+    mul-persons-2
+    array-set-from-persons-2
+    loop-less-4
+    loop-again-4
+    loop-less-5
+    loop-again-5
+    loop-less-6
+    loop-again-6
+    enum-told-3
+    returns-4
+    first-bad-requires
+    ending-requires
+    returns-5
+    returns-6)

@@ -1,0 +1,7 @@
+-- The verdict on a trace, and that it is exact.
+pub mod Verdict
+pub mod Layout
+pub mod Ends
+pub mod Range
+pub mod Reached
+pub mod Exact

@@ -1,0 +1,251 @@
+-- What holds between two lines while a trace is run: the steps so far, the run of them, and the rest of the text decides.
+use Prim.Native.Nat.{ℕ, zero, suc, _+_, _≤_, _<_, zero-le}
+use mathlib.Core.Bool.{Bool, true, false}
+use mathlib.Core.List.{List, [], _∷_, _++_}
+use mathlib.Core.Path.{_≡_, refl, sym, ap, ap₂, subst, _∙_}
+use lib.ListN.{length, getD, take, set, length-append, length-take, length-set}
+use native.Mathlib.Numerals.{add-one}
+use native.Mathlib.Omega.{arith}
+use Rattle.roles.specs.declared.RoleSet.{RoleSet}
+use Rattle.model.specs.declared.Assign.{Assign}
+use Rattle.model.specs.declared.Revoke.{Revoke}
+use Rattle.model.specs.declared.Person.{Person}
+use Rattle.model.specs.Policy.{State, nobody, person}
+use Rattle.text.specs.declared.Name.{Name}
+use Rattle.text.specs.Names.{rows, rows-length}
+use Rattle.text.specs.Pieces.{part, Sought}
+use Rattle.reading.specs.declared.policy.Policy.{Policy}
+use Rattle.reading.specs.Texts.{Judged, Reading, read, refused, text-long}
+use Rattle.reading.specs.Walk.{On, on-start, on-end, on-tail, on-bad, on-goes, on-last, on-more}
+use Rattle.steps.specs.declared.Found.{Found}
+use Rattle.steps.specs.declared.Step.{Step}
+use Rattle.steps.specs.Tests.{mayAssign, mayRevoke, withTarget, withoutTarget, firstBad}
+use Rattle.steps.specs.Traces.{assignAt, revokeAt, possible, after, Ran, broken, ran, runOf}
+use Rattle.steps.specs.Runs.{run-more, run-breaks}
+use Rattle.steps.specs.Exact.{broken-stays}
+use Rattle.steps.specs.Arrays.{assign-may, revoke-may, person-taken, assign-taken, revoke-taken, assign-stored, revoke-stored}
+use Rattle.evidence.specs.declared.trace.TraceEntry.{TraceEntry}
+use Rattle.evidence.specs.declared.trace.TraceLine.{TraceLine}
+use Rattle.evidence.specs.TraceLines.{traceLine}
+use Rattle.evidence.specs.TraceText.{Traced, untraced, added, answered, judgeLine, readTrace}
+use Rattle.running.specs.declared.TraceVerdict.{TraceVerdict}
+use Rattle.running.specs.Layout.{Counted, saidIn}
+use Rattle.running.specs.Range.{InRange, Ranged, good-range}
+use Rattle.running.specs.Verdict.{lastVerdict, ranVerdict, readVerdict, traceVerdict, soFar, endVerdict}
+
+-- how the arrays of a policy are laid out: as long as their types say, with counts within
+pub record Arrayed (p : Policy) : Type 0 where
+  pub counts : Counted p
+  pub persons : length (p .persons) ≡ 64
+  pub assigns : length (p .assigns) ≡ 256
+  pub revokes : length (p .revokes) ≡ 256
+
+-- one line of a trace over the policy
+unfoldable pub judgeOver : Policy → Traced → List ℕ → Judged Traced
+judgeOver p = judgeLine (p .counts .assigns) (p .counts .revokes) (rows (p .counts .users) (p .users))
+
+-- the rules and the state that the arrays hold
+unfoldable pub assignsIn : Policy → List Assign
+assignsIn p = take (p .counts .assigns) (p .assigns)
+
+unfoldable pub revokesIn : Policy → List Revoke
+revokesIn p = take (p .counts .revokes) (p .revokes)
+
+unfoldable pub stateIn : Policy → List Person → State
+stateIn p persons = take (p .counts .users) persons
+
+pub record Reached (p : Policy) (text : List ℕ) (at number : ℕ) (started : Bool) (steps stopped : ℕ) (persons : List Person) : Type 0 where
+  pub arrayed : Arrayed p
+  -- what the lines so far say
+  pub said : Traced
+  pub begun : started ≡ said .started
+  pub counted : steps ≡ length (said .steps)
+  pub few : steps ≤ at
+  -- the steps so far run to the state that the array holds, or the first that is not possible is known
+  pub wide : length persons ≡ 64
+  pub run : runOf (assignsIn p) (revokesIn p) (stateIn p (p .persons)) (said .steps) ≡ soFar stopped (stateIn p persons)
+  -- the whole text gives what the lines from here on give
+  pub on : On (judgeOver p) 15 14 untraced text at number said
+
+-- the verdict goes by what the text gives
+verdict-is : (p : Policy) → Arrayed p → (text : List ℕ) {given : Reading Traced} → readTrace (p .counts .assigns) (p .counts .revokes) (rows (p .counts .users) (p .users)) text ≡ given
+    → readVerdict (saidIn p) given ≡ traceVerdict (saidIn p) text
+unfolding traceVerdict saidIn
+verdict-is p arrayed text {given} is =
+    let assigns : length (take (p .counts .assigns) (p .assigns)) ≡ p .counts .assigns = length-take (p .counts .assigns) (p .assigns) ∙ omega (arith, arrayed .assigns, arrayed .counts .assigns) in
+    let revokes : length (take (p .counts .revokes) (p .revokes)) ≡ p .counts .revokes = length-take (p .counts .revokes) (p .revokes) ∙ omega (arith, arrayed .revokes, arrayed .counts .revokes) in
+    ap (readVerdict (saidIn p)) (sym (ap₂ (λ (a r : ℕ). readTrace a r (rows (p .counts .users) (p .users)) text) assigns revokes ∙ is))
+
+pub refused-long : (p : Policy) (text : List ℕ) → 32768 < length text → TraceVerdict.Refused 14 0 ≡ traceVerdict (saidIn p) text
+unfolding traceVerdict readTrace readVerdict
+refused-long p text long = sym (ap (readVerdict (saidIn p)) (text-long _ 15 14 untraced text long))
+
+pub reached-start : (p : Policy) (text : List ℕ) → Arrayed p → length text ≤ 32768 → Reached p text 0 1 false 0 0 (p .persons)
+unfolding untraced runOf soFar
+reached-start p text arrayed short = record {
+  arrayed = arrayed;
+  said = untraced;
+  begun = refl;
+  counted = refl;
+  few = zero-le;
+  wide = arrayed .persons;
+  run = refl;
+  on = on-start (judgeOver p) 15 14 untraced text short;
+}
+
+-- a program's end of a run is the verdict
+end-is : (steps stopped : ℕ) (goals : List RoleSet) (σ : State) → endVerdict stopped steps (firstBad σ goals) ≡ ranVerdict steps goals (soFar stopped σ)
+unfolding endVerdict ranVerdict soFar
+end-is steps zero goals σ = refl
+end-is steps (suc number) goals σ = refl
+
+module _ {p : Policy} {text : List ℕ} {at number : ℕ} {started : Bool} {steps stopped : ℕ} {persons : List Person} (r : Reached p text at number started steps stopped persons) where
+  -- no line is left, or one without LF
+  pub reached-end : length text ≤ at → TraceVerdict.Refused 15 number ≡ traceVerdict (saidIn p) text
+  unfolding readTrace readVerdict judgeOver
+  reached-end past = verdict-is p (r .arrayed) text (on-end (judgeOver p) 15 14 untraced (r .on) past)
+
+  module _ {stop : ℕ} (sought : Sought text at 10 stop) where
+    pub reached-tail : stop ≡ length text → TraceVerdict.Refused 15 number ≡ traceVerdict (saidIn p) text
+    unfolding readTrace readVerdict judgeOver
+    reached-tail last = verdict-is p (r .arrayed) text (on-tail (judgeOver p) 15 14 untraced (r .on) sought last)
+
+    module _ (here : stop < length text) {answer : TraceLine} (given : answer ≡ traceLine started (p .counts .assigns) (p .counts .revokes) (rows (p .counts .users) (p .users)) (part text at stop)) where
+      judged-is : {judged : Judged Traced} → answered (r .said) answer ≡ judged → judgeOver p (r .said) (part text at stop) ≡ judged
+      unfolding judgeLine judgeOver
+      judged-is is =
+          ap (answered (r .said)) (sym (given ∙ ap (λ (b : Bool). traceLine b (p .counts .assigns) (p .counts .revokes) (rows (p .counts .users) (p .users)) (part text at stop)) (r .begun))) ∙ is
+
+      -- a line that is not good
+      pub line-refused : {k : ℕ} → answer ≡ TraceLine.Bad k → TraceVerdict.Refused k number ≡ traceVerdict (saidIn p) text
+      unfolding readTrace readVerdict judgeOver answered
+      line-refused bad-line = verdict-is p (r .arrayed) text (on-bad (judgeOver p) 15 14 untraced (r .on) sought here (judged-is (ap (answered (r .said)) bad-line)))
+
+      pub line-header : answer ≡ TraceLine.Good TraceEntry.Header → Reached p text (stop + 1) (number + 1) true steps stopped persons
+      unfolding answered added
+      line-header good = record {
+        arrayed = r .arrayed;
+        said = record { started = true; steps = r .said .steps };
+        begun = refl;
+        counted = r .counted;
+        few = omega (arith, r .few, sought .first);
+        wide = r .wide;
+        run = r .run;
+        on = on-goes (judgeOver p) 15 14 untraced (r .on) sought here (judged-is (ap (answered (r .said)) good));
+      }
+
+      -- a step more
+      line-step : {step : Step} → answer ≡ TraceLine.Good (TraceEntry.Step step) → (stopped′ : ℕ) (persons′ : List Person) → length persons′ ≡ 64
+          → runOf (assignsIn p) (revokesIn p) (stateIn p (p .persons)) (r .said .steps ++ (step ∷ [])) ≡ soFar stopped′ (stateIn p persons′) → Reached p text (stop + 1) (number + 1) started (steps + 1) stopped′ persons′
+      unfolding answered added
+      line-step {step} good stopped′ persons′ wide run = record {
+        arrayed = r .arrayed;
+        said = record { started = r .said .started; steps = r .said .steps ++ (step ∷ []) };
+        begun = r .begun;
+        counted = omega (arith, r .counted, length-append (r .said .steps) (step ∷ []));
+        few = omega (arith, r .few, sought .first);
+        wide = wide;
+        run = run;
+        on = on-goes (judgeOver p) 15 14 untraced (r .on) sought here (judged-is (ap (answered (r .said)) good));
+      }
+
+      -- after a step that was not possible
+      pub step-passed : {step : Step} → answer ≡ TraceLine.Good (TraceEntry.Step step) → (stopped ≡ 0 → ⊥) → Reached p text (stop + 1) (number + 1) started (steps + 1) stopped persons
+      unfolding soFar
+      step-passed {step} good some = line-step good stopped persons (r .wide) (go stopped some (r .run))
+        where
+          go : (n : ℕ) → (n ≡ 0 → ⊥) → runOf (assignsIn p) (revokesIn p) (stateIn p (p .persons)) (r .said .steps) ≡ soFar n (stateIn p persons)
+              → runOf (assignsIn p) (revokesIn p) (stateIn p (p .persons)) (r .said .steps ++ (step ∷ [])) ≡ soFar n (stateIn p persons)
+          go zero positive run = absurd (positive refl)
+          go (suc n) positive run = broken-stays (assignsIn p) (revokesIn p) (stateIn p (p .persons)) (r .said .steps) (step ∷ []) (suc n) run
+
+      module _ (none : stopped ≡ 0) where
+        running : runOf (assignsIn p) (revokesIn p) (stateIn p (p .persons)) (r .said .steps) ≡ ran (stateIn p persons)
+        unfolding soFar
+        running = r .run ∙ ap (λ (n : ℕ). soFar n (stateIn p persons)) none
+
+        step-goes : {step : Step} {persons′ : List Person} → answer ≡ TraceLine.Good (TraceEntry.Step step) → possible (assignsIn p) (revokesIn p) (stateIn p persons) step ≡ true → length persons′ ≡ 64
+            → after (assignsIn p) (revokesIn p) (stateIn p persons) step ≡ stateIn p persons′ → Reached p text (stop + 1) (number + 1) started (steps + 1) stopped persons′
+        unfolding soFar
+        step-goes {step} {persons′} good may wide becomes =
+            line-step good stopped persons′ wide
+            (run-more (assignsIn p) (revokesIn p) (stateIn p (p .persons)) (r .said .steps) step running may ∙ ap ran becomes ∙ sym (ap (λ (n : ℕ). soFar n (stateIn p persons′)) none))
+
+        step-breaks : {step : Step} → answer ≡ TraceLine.Good (TraceEntry.Step step) → possible (assignsIn p) (revokesIn p) (stateIn p persons) step ≡ false
+            → Reached p text (stop + 1) (number + 1) started (steps + 1) (steps + 1) persons
+        unfolding soFar
+        step-breaks {step} good may =
+            line-step good (steps + 1) persons (r .wide)
+            (run-breaks (assignsIn p) (revokesIn p) (stateIn p (p .persons)) (r .said .steps) step [] running may
+            ∙ sym (ap (λ (n : ℕ). soFar n (stateIn p persons)) (add-one steps ∙ ap suc (r .counted))))
+
+      ranged : {e : TraceEntry} → answer ≡ TraceLine.Good e → Ranged (p .counts .assigns) (p .counts .revokes) (p .counts .users) e
+      ranged {e} good =
+          subst (λ (n : ℕ). Ranged (p .counts .assigns) (p .counts .revokes) n e) (rows-length (p .counts .users) (p .users))
+          (good-range started (p .counts .assigns) (p .counts .revokes) (rows (p .counts .users) (p .users)) (part text at stop) (sym given ∙ good))
+
+      state-length : length (stateIn p persons) ≡ p .counts .users
+      unfolding stateIn
+      state-length = length-take (p .counts .users) persons ∙ omega (arith, r .wide, r .arrayed .counts .users)
+
+      module _ {actor rule user : ℕ} (good : answer ≡ TraceLine.Good (TraceEntry.Step (Step.Assign actor rule user))) where
+        pub assign-range : InRange (p .counts .assigns) (p .counts .users) actor rule user
+        assign-range = ranged good
+
+        assign-test : possible (assignsIn p) (revokesIn p) (stateIn p persons) (Step.Assign actor rule user) ≡ mayAssign (assignAt (p .assigns) rule) (getD persons actor nobody) (getD persons user nobody)
+        unfolding assignsIn stateIn
+        assign-test =
+            assign-may (assignsIn p) (revokesIn p) (stateIn p persons) actor rule user (omega (arith, assign-range .ruled, length-take (p .counts .assigns) (p .assigns), r .arrayed .assigns, r .arrayed .counts .assigns))
+            (omega (arith, assign-range .acts, state-length)) (omega (arith, assign-range .used, state-length))
+            ∙ ap (λ (x : Assign). mayAssign x (person (stateIn p persons) actor) (person (stateIn p persons) user)) (assign-taken (p .assigns) (p .counts .assigns) (assign-range .ruled))
+            ∙ ap₂ (mayAssign (assignAt (p .assigns) rule)) (person-taken persons (p .counts .users) (assign-range .acts)) (person-taken persons (p .counts .users) (assign-range .used))
+
+        module _ (none : stopped ≡ 0) {may : Bool} (tested : may ≡ mayAssign (assignAt (p .assigns) rule) (getD persons actor nobody) (getD persons user nobody)) where
+          pub assign-goes : {held : Person} → may ≡ true → held ≡ withTarget (assignAt (p .assigns) rule) (getD persons user nobody) → Reached p text (stop + 1) (number + 1) started (steps + 1) stopped (set persons user held)
+          unfolding assignsIn stateIn
+          assign-goes {held} is becomes =
+              step-goes none good (assign-test ∙ sym tested ∙ is) (length-set persons user held ∙ r .wide)
+              (assign-stored (assignsIn p) (revokesIn p) persons (p .counts .users) actor rule user (assign-range .used)
+              ∙ ap (λ (x : Assign). take (p .counts .users) (set persons user (withTarget x (getD persons user nobody)))) (assign-taken (p .assigns) (p .counts .assigns) (assign-range .ruled))
+              ∙ ap (λ (x : Person). take (p .counts .users) (set persons user x)) (sym becomes))
+
+          pub assign-breaks : may ≡ false → Reached p text (stop + 1) (number + 1) started (steps + 1) (steps + 1) persons
+          assign-breaks is = step-breaks none good (assign-test ∙ sym tested ∙ is)
+
+      module _ {actor rule user : ℕ} (good : answer ≡ TraceLine.Good (TraceEntry.Step (Step.Revoke actor rule user))) where
+        pub revoke-range : InRange (p .counts .revokes) (p .counts .users) actor rule user
+        revoke-range = ranged good
+
+        revoke-test : possible (assignsIn p) (revokesIn p) (stateIn p persons) (Step.Revoke actor rule user) ≡ mayRevoke (revokeAt (p .revokes) rule) (getD persons actor nobody) (getD persons user nobody)
+        unfolding revokesIn stateIn
+        revoke-test =
+            revoke-may (assignsIn p) (revokesIn p) (stateIn p persons) actor rule user (omega (arith, revoke-range .ruled, length-take (p .counts .revokes) (p .revokes), r .arrayed .revokes, r .arrayed .counts .revokes))
+            (omega (arith, revoke-range .acts, state-length)) (omega (arith, revoke-range .used, state-length))
+            ∙ ap (λ (x : Revoke). mayRevoke x (person (stateIn p persons) actor) (person (stateIn p persons) user)) (revoke-taken (p .revokes) (p .counts .revokes) (revoke-range .ruled))
+            ∙ ap₂ (mayRevoke (revokeAt (p .revokes) rule)) (person-taken persons (p .counts .users) (revoke-range .acts)) (person-taken persons (p .counts .users) (revoke-range .used))
+
+        module _ (none : stopped ≡ 0) {may : Bool} (tested : may ≡ mayRevoke (revokeAt (p .revokes) rule) (getD persons actor nobody) (getD persons user nobody)) where
+          pub revoke-goes : {held : Person} → may ≡ true → held ≡ withoutTarget (revokeAt (p .revokes) rule) (getD persons user nobody) → Reached p text (stop + 1) (number + 1) started (steps + 1) stopped (set persons user held)
+          unfolding revokesIn stateIn
+          revoke-goes {held} is becomes =
+              step-goes none good (revoke-test ∙ sym tested ∙ is) (length-set persons user held ∙ r .wide)
+              (revoke-stored (assignsIn p) (revokesIn p) persons (p .counts .users) actor rule user (revoke-range .used)
+              ∙ ap (λ (x : Revoke). take (p .counts .users) (set persons user (withoutTarget x (getD persons user nobody)))) (revoke-taken (p .revokes) (p .counts .revokes) (revoke-range .ruled))
+              ∙ ap (λ (x : Person). take (p .counts .users) (set persons user x)) (sym becomes))
+
+          pub revoke-breaks : may ≡ false → Reached p text (stop + 1) (number + 1) started (steps + 1) (steps + 1) persons
+          revoke-breaks is = step-breaks none good (revoke-test ∙ sym tested ∙ is)
+
+      -- the last line, and bytes after it
+      module _ (ending : answer ≡ TraceLine.Good TraceEntry.End) where
+        pub line-last : {found : Found} {verdict : TraceVerdict} → length text ≤ stop + 1 → found ≡ firstBad (stateIn p persons) (take (p .counts .goals) (p .goals)) → verdict ≡ endVerdict stopped steps found
+            → verdict ≡ traceVerdict (saidIn p) text
+        unfolding readTrace readVerdict judgeOver answered added saidIn assignsIn revokesIn stateIn
+        line-last {found} all finds is =
+            is ∙ ap (endVerdict stopped steps) finds ∙ end-is steps stopped (take (p .counts .goals) (p .goals)) (stateIn p persons)
+            ∙ ap₂ (λ (n : ℕ) (x : Ran). ranVerdict n (take (p .counts .goals) (p .goals)) x) (r .counted) (sym (r .run))
+            ∙ verdict-is p (r .arrayed) text (on-last (judgeOver p) 15 14 untraced (r .on) sought here (judged-is (ap (answered (r .said)) ending)) all)
+
+        pub line-more : stop + 1 < length text → TraceVerdict.Refused 15 (number + 1) ≡ traceVerdict (saidIn p) text
+        unfolding readTrace readVerdict judgeOver answered added
+        line-more left = verdict-is p (r .arrayed) text (on-more (judgeOver p) 15 14 untraced (r .on) sought here (judged-is (ap (answered (r .said)) ending)) left)

@@ -1,0 +1,111 @@
+// The verdict on a trace: every line is read, every step tried, and the last state judged.
+ghost use mathlib.Core.Path.{_≡_};
+ghost use Rattle.running.specs.Verdict.{endVerdict, traceVerdict};
+ghost use Rattle.running.specs.Layout.{Counted, saidIn};
+use evidence::trace::TraceEntry;
+use evidence::trace::TraceLine;
+use evidence::trace::code;
+use evidence::trace::read_line;
+use reading::policy::Policy;
+use steps::Found;
+use steps::Step;
+use steps::first_bad;
+use steps::given;
+use steps::may_assign;
+use steps::may_revoke;
+use steps::taken;
+
+// The verdict on a trace.
+pub enum TraceVerdict {
+    // the refusal's number and line
+    Refused(u64, usize),
+    // the number of steps, the user's place from 0 and the goal's number from 1
+    Attacked(usize, usize, usize),
+    // the number, from 1, of the first step that is not one
+    Broken(usize),
+    // the number of steps
+    Short(usize),
+}
+
+// The verdict on a trace that was read: the first step that is not one, 0 where there is none, then who was found in the last state.
+fn ending(broken: usize, steps: usize, found: Found) -> TraceVerdict
+    ensures { λ r. ⌜ r ≡ endVerdict broken steps found ⌝ }
+{
+    if broken != 0 {
+        return TraceVerdict::Broken(broken);
+    }
+    if found.user == 0 {
+        return TraceVerdict::Short(steps);
+    }
+    TraceVerdict::Attacked(steps, found.user - 1, found.goal)
+}
+
+// The verdict on a trace text over a policy. The first bad line decides a refusal; after the first step that is not one, lines are read on.
+pub fn run_trace(text: &[u8], p: Policy) -> TraceVerdict
+    requires { ⌜ Counted p ⌝ }
+    ensures { λ r. ⌜ r ≡ traceVerdict (saidIn p) (now (text .entry)) ⌝ }
+{
+    let end = text.len();
+    if 32768 < end {
+        return TraceVerdict::Refused(14, 0);
+    }
+    let c = p.counts;
+    let goals = p.goals;
+    let mut persons = p.persons;
+    let mut started = false;
+    let mut steps = 0;
+    let mut broken = 0;
+    let mut at = 0;
+    let mut number = 1;
+    while at < end {
+        let stop = text::seek(text, at, b'\n');
+        if stop == end {
+            return TraceVerdict::Refused(15, number);
+        }
+        let answer = read_line(&text[at..stop], &p.users, c, started);
+        let here = number;
+        at = stop + 1;
+        number += 1;
+        let TraceLine::Good(entry) = answer else {
+            return TraceVerdict::Refused(code(answer), here);
+        };
+        match entry {
+            TraceEntry::Header => {
+                started = true;
+            }
+            TraceEntry::Step(step) => {
+                steps += 1;
+                if broken == 0 {
+                    match step {
+                        Step::Assign { actor, rule, user } => {
+                            let assign = p.assigns[rule];
+                            let held = persons[user];
+                            if may_assign(assign, persons[actor], held) {
+                                persons[user] = given(assign, held);
+                            } else {
+                                broken = steps;
+                            }
+                        }
+                        Step::Revoke { actor, rule, user } => {
+                            let revoke = p.revokes[rule];
+                            let held = persons[user];
+                            if may_revoke(revoke, persons[actor], held) {
+                                persons[user] = taken(revoke, held);
+                            } else {
+                                broken = steps;
+                            }
+                        }
+                    }
+                }
+            }
+            TraceEntry::End => {
+                if at < end {
+                    return TraceVerdict::Refused(15, number);
+                }
+                let found = first_bad(persons, c.users, goals, c.goals);
+                return ending(broken, steps, found);
+            }
+        }
+    }
+    TraceVerdict::Refused(15, number)
+}
