@@ -1,0 +1,3 @@
+-- What is answered to two texts, and what the answers mean.
+pub mod Answers
+pub mod Laws
