@@ -1,3 +1,4 @@
 -- What is answered to two texts, and what the answers mean.
 pub mod Answers
 pub mod Laws
+pub mod Exact

@@ -18,10 +18,10 @@ use Rattle.model.specs.Meaning.{meaning}
 use Rattle.model.specs.Safety.{accepted-safe}
 use Rattle.rules.specs.Tests.{personPasses, assignPasses, revokePasses, goalPasses}
 use Rattle.rules.specs.Exact.{Laid, SizedRule, person-exact, assign-exact, revoke-exact, goal-exact}
-use Rattle.reading.specs.Policy.{Said}
+use Rattle.reading.specs.Policy.{Said, policyOf}
 use Rattle.judging.specs.declared.Part.{Part}
 use Rattle.judging.specs.declared.TypingVerdict.{TypingVerdict}
-use Rattle.judging.specs.Verdict.{policyOf, subjectOf, firstHolding, firstAssign, firstRevoke, firstGoal, failingPart, andThen, judgedRules, judgedTyping, rulesVerdict, typingVerdict}
+use Rattle.judging.specs.Verdict.{subjectOf, firstHolding, firstAssign, firstRevoke, firstGoal, failingPart, andThen, judgedRules, judgedTyping, rulesVerdict, typingVerdict}
 use Rattle.judging.specs.Failing.{FirstBad}
 use Rattle.judging.specs.Order.{both-accepted, one-fails, part-accepted, part-fails}
 

@@ -8,9 +8,9 @@ use native.Mathlib.Omega.{arith}
 use Rattle.roles.specs.Sets.{emptySet}
 use Rattle.model.specs.declared.Typing.{Typing as Table}
 use Rattle.model.specs.Policy.{nobody}
-use Rattle.reading.specs.Policy.{Said, countsOf, padded, noAssign, noRevoke, laidWith, laidOut}
+use Rattle.reading.specs.Policy.{Said, countsOf, padded, noAssign, noRevoke, laidWith, laidOut, policyOf}
 use Rattle.reading.specs.Reached.{Bounded}
-use Rattle.judging.specs.Verdict.{Subject, policyOf, subjectOf, subjectIn, judgedRules, judgedTyping, rulesVerdict, typingVerdict}
+use Rattle.judging.specs.Verdict.{Subject, subjectOf, subjectIn, judgedRules, judgedTyping, rulesVerdict, typingVerdict}
 
 -- as many elements of an array as were laid out in it
 counted : {A : Type 0} (size : ℕ) (filling : A) (xs : List A) {count : ℕ} → count ≡ length xs → length xs ≤ size → take (min count size) (padded size filling xs) ≡ xs

@@ -10,7 +10,7 @@ use Rattle.model.specs.Typing.{Typing}
 use Rattle.model.specs.Meaning.{meaning}
 use Rattle.rules.specs.Tests.{personPasses, assignPasses, revokePasses, goalPasses}
 use Rattle.reading.specs.declared.policy.Policy.{Policy as Arrays}
-use Rattle.reading.specs.Policy.{Said}
+use Rattle.reading.specs.Policy.{Said, policyOf}
 use Rattle.judging.specs.declared.Part.{Part}
 use Rattle.judging.specs.declared.TypingVerdict.{TypingVerdict}
 
@@ -32,10 +32,6 @@ pub record Subject : Type 0 where
   pub roles : ℕ
   pub holdings : State
   pub policy : Policy
-
--- The rules and goals that a policy text says.
-unfoldable pub policyOf : Said → Policy
-policyOf s = record { assigns = s .assigns; revokes = s .revokes; goals = s .goals }
 
 unfoldable pub subjectOf : Said → Subject
 subjectOf s = record { roles = length (s .roles); holdings = s .holdings; policy = policyOf s }

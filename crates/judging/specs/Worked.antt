@@ -12,11 +12,11 @@ use Rattle.closing.specs.Rounds.{addIf, roleStep, stepsBelow, roundOf, samePair
 use Rattle.rules.specs.Below.{everyBelow, someBelow}
 use Rattle.rules.specs.Tests.{implies, typeOf, inconsistentRole, roleSuits, personPasses, holdsHigh, unopposedTarget, unneededTarget, targetSuits, assignPasses, revokePasses, goalPasses}
 use Rattle.reading.specs.Texts.{Reading, read, refused}
-use Rattle.reading.specs.Policy.{Said, readPolicy}
+use Rattle.reading.specs.Policy.{Said, readPolicy, policyOf}
 use Rattle.reading.specs.Worked.{reading}
 use Rattle.judging.specs.declared.Part.{Part}
 use Rattle.judging.specs.declared.TypingVerdict.{TypingVerdict}
-use Rattle.judging.specs.Verdict.{firstFrom, firstFailing, policyOf, subjectOf, firstHolding, firstAssign, firstRevoke, firstGoal, failingPart, andThen, judgedRules, judgedTyping, rulesVerdict, typingVerdict, pinnedBelow, pinnedNames}
+use Rattle.judging.specs.Verdict.{firstFrom, firstFailing, subjectOf, firstHolding, firstAssign, firstRevoke, firstGoal, failingPart, andThen, judgedRules, judgedTyping, rulesVerdict, typingVerdict, pinnedBelow, pinnedNames}
 
 -- opens every definition of this layer
 unfoldable pub judging : Unit {0}

@@ -8,7 +8,7 @@ use Rattle.roles.specs.Sets.{emptySet, hasRole}
 use Rattle.model.specs.declared.Assign.{Assign}
 use Rattle.model.specs.declared.Revoke.{Revoke}
 use Rattle.model.specs.declared.Person.{Person}
-use Rattle.model.specs.Policy.{State, nobody, person, granted}
+use Rattle.model.specs.Policy.{Policy as Rules, State, nobody, person, granted}
 use Rattle.text.specs.declared.Name.{Name}
 use Rattle.text.specs.Names.{wordsOf}
 use Rattle.reading.specs.declared.lines.Counts.{Counts}
@@ -42,6 +42,10 @@ countsOf s = record {
   revokes = length (s .revokes);
   goals = length (s .goals);
 }
+
+-- The rules and goals that a policy text says.
+unfoldable pub policyOf : Said → Rules
+policyOf s = record { assigns = s .assigns; revokes = s .revokes; goals = s .goals }
 
 -- one entry more, at the end of its kind
 unfoldable pub added : Said → Entry → Said

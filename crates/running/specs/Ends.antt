@@ -1,7 +1,6 @@
 -- The three verdicts on a trace that was read.
 use Prim.Native.Nat.{ℕ, zero, suc, _-_}
 use borrow.Author.Tests.{eq-eqb, ne-eqb}
-use mathlib.Core.Bool.{Bool, cond}
 use mathlib.Core.Path.{_≡_, refl, sym, ap, _∙_}
 use Rattle.steps.specs.declared.Found.{Found}
 use Rattle.running.specs.declared.TraceVerdict.{TraceVerdict}

@@ -1,6 +1,6 @@
 -- The verdict on a trace is exact: each of the four is given exactly when its words in document 01's table hold.
 use Prim.Native.Nat.{ℕ, zero, suc, _-_, _<_}
-use mathlib.Core.Bool.{Bool, true, false, false≢true}
+use mathlib.Core.Bool.{true, false, false≢true}
 use mathlib.Core.List.{List}
 use mathlib.Core.Logic.{_↔_}
 use mathlib.Core.Path.{_≡_, refl, sym, ap, ap₂, subst, _∙_}
@@ -9,7 +9,7 @@ use native.Mathlib.Omega.{arith}
 use Rattle.model.specs.Policy.{Policy, State, CanAssign, CanRevoke, Bad}
 use Rattle.model.specs.Safety.{Attack}
 use Rattle.reading.specs.Texts.{Reading, read, refused}
-use Rattle.reading.specs.Policy.{Said}
+use Rattle.reading.specs.Policy.{Said, policyOf}
 use Rattle.steps.specs.declared.Found.{Found}
 use Rattle.steps.specs.declared.Step.{Step}
 use Rattle.steps.specs.Places.{at-listed}
@@ -20,11 +20,7 @@ use Rattle.steps.specs.Bad.{SizedGoals, FirstBad, bad-exact, bad-first, first-o
 use Rattle.evidence.specs.TraceText.{Traced, readTrace}
 use Rattle.running.specs.declared.TraceVerdict.{TraceVerdict}
 use Rattle.running.specs.Ends.{last-short, last-attacked}
-use Rattle.running.specs.Verdict.{lastVerdict, ranVerdict, readVerdict, traceVerdict}
-
--- The rules and goals that a policy text says.
-unfoldable pub policyOf : Said → Policy
-policyOf s = record { assigns = s .assigns; revokes = s .revokes; goals = s .goals }
+use Rattle.running.specs.Verdict.{ranVerdict, readVerdict, traceVerdict}
 
 -- ---- what each verdict says
 

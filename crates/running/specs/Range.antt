@@ -1,5 +1,5 @@
 -- The places in a good step line are those of users and rules of the policy.
-use Prim.Native.Nat.{ℕ, zero, suc, _-_, _≤_, _<_}
+use Prim.Native.Nat.{ℕ, _-_, _≤_, _<_}
 use borrow.Author.Tests.{leb-true, ltb-true, eq-eqb}
 use mathlib.Core.Bool.{Bool, true, false, not, _&&_, false≢true, and-eq-true-iff}
 use mathlib.Core.List.{List}

@@ -11,16 +11,15 @@ use Rattle.model.specs.declared.Assign.{Assign}
 use Rattle.model.specs.declared.Revoke.{Revoke}
 use Rattle.model.specs.declared.Person.{Person}
 use Rattle.model.specs.Policy.{State, nobody, person}
-use Rattle.text.specs.declared.Name.{Name}
 use Rattle.text.specs.Names.{rows, rows-length}
 use Rattle.text.specs.Pieces.{part, Sought}
 use Rattle.reading.specs.declared.policy.Policy.{Policy}
-use Rattle.reading.specs.Texts.{Judged, Reading, read, refused, text-long}
+use Rattle.reading.specs.Texts.{Judged, Reading, text-long}
 use Rattle.reading.specs.Walk.{On, on-start, on-end, on-tail, on-bad, on-goes, on-last, on-more}
 use Rattle.steps.specs.declared.Found.{Found}
 use Rattle.steps.specs.declared.Step.{Step}
 use Rattle.steps.specs.Tests.{mayAssign, mayRevoke, withTarget, withoutTarget, firstBad}
-use Rattle.steps.specs.Traces.{assignAt, revokeAt, possible, after, Ran, broken, ran, runOf}
+use Rattle.steps.specs.Traces.{assignAt, revokeAt, possible, after, Ran, ran, runOf}
 use Rattle.steps.specs.Runs.{run-more, run-breaks}
 use Rattle.steps.specs.Exact.{broken-stays}
 use Rattle.steps.specs.Arrays.{assign-may, revoke-may, person-taken, assign-taken, revoke-taken, assign-stored, revoke-stored}
@@ -31,7 +30,7 @@ use Rattle.evidence.specs.TraceText.{Traced, untraced, added, answered, judgeLi
 use Rattle.running.specs.declared.TraceVerdict.{TraceVerdict}
 use Rattle.running.specs.Layout.{Counted, saidIn}
 use Rattle.running.specs.Range.{InRange, Ranged, good-range}
-use Rattle.running.specs.Verdict.{lastVerdict, ranVerdict, readVerdict, traceVerdict, soFar, endVerdict}
+use Rattle.running.specs.Verdict.{ranVerdict, readVerdict, traceVerdict, soFar, endVerdict}
 
 -- how the arrays of a policy are laid out: as long as their types say, with counts within
 pub record Arrayed (p : Policy) : Type 0 where

@@ -10,11 +10,11 @@ use Rattle.model.specs.Meaning.{meaning}
 use Rattle.model.specs.Safety.{Attack, accepted-safe, never-both}
 use Rattle.rules.specs.Exact.{Laid}
 use Rattle.reading.specs.Texts.{read}
-use Rattle.reading.specs.Policy.{Said, readPolicy}
+use Rattle.reading.specs.Policy.{Said, policyOf, readPolicy}
 use Rattle.reading.specs.Kept.{read-bounded}
 use Rattle.evidence.specs.TypingText.{Typed, readTyping, tableOf}
 use Rattle.judging.specs.declared.TypingVerdict.{TypingVerdict}
-use Rattle.judging.specs.Verdict.{policyOf, typingVerdict}
+use Rattle.judging.specs.Verdict.{typingVerdict}
 use Rattle.judging.specs.Exact.{typing-accepted}
 use Rattle.verdicts.specs.PolicySized.{read-sized}
 use Rattle.verdicts.specs.TypingLaid.{read-laid}

@@ -2,7 +2,7 @@
 use Prim.Native.Nat.{ℕ, _+_, _-_, _<_}
 use borrow.Author.Needs.{needs}
 use lib.ListN.{length, length-map}
-use mathlib.Core.Path.{_≡_, sym, ap, _∙_}
+use mathlib.Core.Path.{_≡_, ap, _∙_}
 use native.Mathlib.Omega.{arith}
 use Rattle.model.specs.Policy.{nobody}
 use Rattle.roles.specs.Sets.{emptySet}
