@@ -6,7 +6,7 @@ use mathlib.Core.Logic.{_↔_}
 use mathlib.Core.Path.{_≡_, refl, sym, ap, ap₂, subst, _∙_}
 use lib.ListN.{length}
 use native.Mathlib.Omega.{arith}
-use Rattle.model.specs.Policy.{Policy, State, CanAssign, CanRevoke, Bad}
+use Rattle.model.specs.Policy.{State, CanAssign, CanRevoke, Bad}
 use Rattle.model.specs.Safety.{Attack}
 use Rattle.reading.specs.Texts.{Reading, read, refused}
 use Rattle.reading.specs.Policy.{Said, policyOf}
