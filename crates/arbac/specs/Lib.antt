@@ -2,3 +2,4 @@
 pub mod Answers
 pub mod Laws
 pub mod Exact
+pub mod Worked

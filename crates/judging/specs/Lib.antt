@@ -5,4 +5,3 @@ pub mod Failing
 pub mod Order
 pub mod Layout
 pub mod Exact
-pub mod Worked
