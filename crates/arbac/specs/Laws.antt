@@ -10,7 +10,8 @@ use Rattle.model.specs.declared.Typing.{Typing as Table}
 use Rattle.reading.specs.Texts.{Reading, read, refused}
 use Rattle.reading.specs.declared.lines.Counts.{Counts}
 use Rattle.reading.specs.declared.policy.Policy.{Policy}
-use Rattle.reading.specs.Policy.{Said, countsOf, laidOut, readPolicy}
+use Rattle.reading.specs.declared.policy.PolicyRead.{PolicyRead}
+use Rattle.reading.specs.Policy.{Said, countsOf, laidOut, readPolicy, policyRead}
 use Rattle.reading.specs.Reached.{Bounded}
 use Rattle.reading.specs.Told.{counts-laid, roles-laid}
 use Rattle.evidence.specs.declared.typing.TypingRead.{TypingRead}
@@ -65,6 +66,11 @@ module _ (c : Counts) (subject : Subject) (names : List Name) (text : List ℕ) 
       go (refused k n) is same = absurd (refusal-number (typing-refusal-exact names text k n .0 is) (sym (ap (λ (q : TypingRead). q .refusal) same) ∙ none))
 
 -- ---- both texts
+
+-- The record comes of reading some policy text.
+pub record FromText (R : PolicyRead) : Type 0 where
+  pub text : List ℕ
+  pub is : R ≡ policyRead text
 
 module _ (policy evidence : List ℕ) where
   pub policy-refused : {k n : ℕ} → readPolicy policy ≡ refused k n → Answer.Refused k n ≡ answerOf policy evidence

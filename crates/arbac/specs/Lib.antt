@@ -2,4 +2,7 @@
 pub mod Answers
 pub mod Laws
 pub mod Exact
+pub mod Line
+pub mod LineSteps
+pub mod LineTold
 pub mod Worked

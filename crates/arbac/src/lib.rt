@@ -1,12 +1,22 @@
 // The public face: the answer to a policy text and a piece of evidence.
+pub mod line;
+
+pub use evidence::place::bad_line;
+pub use evidence::place::bad_place;
+pub use line::check_line;
+pub use merging::merge::merge;
+pub use merging::sums::sum;
 ghost use mathlib.Core.Path.{_≡_};
-ghost use Prim.Native.Nat.{_*_, _≤_};
+ghost use mathlib.Core.List.{List};
+ghost use Prim.Native.Nat.{ℕ, _*_, _≤_};
 ghost use lib.ListN.{length};
 ghost use Rattle.text.specs.Names.{rows};
+ghost use Rattle.reading.specs.Policy.{policyRead};
 ghost use Rattle.evidence.specs.TypingText.{readTyping};
 ghost use Rattle.judging.specs.Verdict.{subjectIn};
 ghost use Rattle.running.specs.Verdict.{traceVerdict};
 ghost use Rattle.running.specs.Layout.{Counted, saidIn};
+ghost use Rattle.arbac.specs.Laws.{FromText};
 ghost use Rattle.arbac.specs.Answers.{judgedAnswer, typingAnswer, traceAnswer, answerOf};
 use evidence::place::is_typing;
 use evidence::typing::read_typing;
@@ -17,6 +27,7 @@ use judging::pinned;
 use model::Typing;
 use reading::lines::Counts;
 use reading::policy::Policy;
+use reading::policy::PolicyRead;
 use reading::policy::read_policy;
 use running::TraceVerdict;
 use running::run_trace;
@@ -74,11 +85,11 @@ fn check_trace(text: &[u8], p: Policy) -> Answer
     }
 }
 
-// The answer to a policy text and a piece of evidence: the policy first, then the evidence, then the judging.
-pub fn check(policy: &[u8], evidence: &[u8]) -> Answer
-    ensures { λ r. ⌜ r ≡ answerOf (now (policy .entry)) (now (evidence .entry)) ⌝ }
+// The answer to a piece of evidence over a policy text that has been read or refused.
+fn answer_to(read: PolicyRead, evidence: &[u8]) -> Answer
+    requires { ⌜ FromText read ⌝ }
+    ensures { λ r. ⌜ ((policy : List ℕ) → read ≡ policyRead policy → r ≡ answerOf policy (now (evidence .entry))) ⌝ }
 {
-    let read = read_policy(policy);
     if read.refusal != 0 {
         return Answer::Refused(read.refusal, read.line);
     }
@@ -87,4 +98,11 @@ pub fn check(policy: &[u8], evidence: &[u8]) -> Answer
         return check_typing(evidence, p);
     }
     check_trace(evidence, p)
+}
+
+// The answer to a policy text and a piece of evidence: the policy first, then the evidence, then the judging.
+pub fn check(policy: &[u8], evidence: &[u8]) -> Answer
+    ensures { λ r. ⌜ r ≡ answerOf (now (policy .entry)) (now (evidence .entry)) ⌝ }
+{
+    answer_to(read_policy(policy), evidence)
 }

@@ -1,7 +1,4 @@
--- `check` reads the policy, and where it is read, answers the evidence by its kind.
-use mathlib.Core.Path.{sym, _∙_}
-use Rattle.reading.specs.Told.{told, untold, tables-laid}
-use Rattle.arbac.specs.Laws.{policy-refused, over-typing, over-trace, counted}
+-- `check` reads the policy and answers over what it is read into.
 use borrow.Author.Needs.{needs}
 use Rattle.arbac.proofs.check.Statement.{statement}
 use Rattle.arbac.proofs.check.Tie as tie
@@ -9,32 +6,11 @@ use Rattle.arbac.proofs.check.Tie as tie
 read-policy-requires : tie.Need-read-policy-requires
 read-policy-requires c κs = search needs
 
+answer-to-requires : tie.Need-answer-to-requires
+answer-to-requires c κs = search needs
+
 returns : tie.Need-returns
-returns c = policy-refused _ _ (untold _ (c .before .before .read-policy .ensures) (c .if1 .taken) .is)
-
-is-typing-requires : tie.Need-is-typing-requires
-is-typing-requires c κs = search needs
-
-check-typing-requires : tie.Need-check-typing-requires
-check-typing-requires c κs = let t = told _ (c .before .before .before .before .before .read-policy .ensures) (c .before .before .before .if1 .left) in let room = tables-laid (t .said) (t .bounded) (t .laid) in (room .0, room .1)
-
-returns-2 : tie.Need-returns-2
-returns-2 c = let t = told _ (c .before .before .before .before .before .before .read-policy .ensures) (c .before .before .before .before .if1 .left) in c .check-typing .ensures ∙ over-typing _ _ (t .is) (t .bounded) (t .laid) (sym (c .before .before .is-typing .ensures) ∙ c .before .if2 .taken)
-
-check-trace-requires : tie.Need-check-trace-requires
-check-trace-requires c κs = let t = told _ (c .before .before .before .before .before .read-policy .ensures) (c .before .before .before .if1 .left) in counted (t .bounded) (t .laid)
-
-returns-3 : tie.Need-returns-3
-returns-3 c = let t = told _ (c .before .before .before .before .before .before .read-policy .ensures) (c .before .before .before .before .if1 .left) in c .check-trace .ensures ∙ over-trace _ _ (t .is) (t .bounded) (t .laid) (sym (c .before .before .is-typing .ensures) ∙ c .before .if2 .left)
+returns c = c .answer-to .ensures (c .before .before .before .before .args .policy .now) (c .before .read-policy .ensures)
 
 pub check-spec : {M : Type 1} → statement M
-check-spec =
-    tie.close
-    (tie.spec
-    read-policy-requires
-    returns
-    is-typing-requires
-    check-typing-requires
-    returns-2
-    check-trace-requires
-    returns-3)
+check-spec = tie.close (tie.spec read-policy-requires answer-to-requires returns)

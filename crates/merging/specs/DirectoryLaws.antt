@@ -1,0 +1,151 @@
+-- Two policies are over the same directory exactly when roles, users and holdings are equal; and the arrays tell it.
+use Prim.Native.Nat.{ℕ, suc, _*_, _≤_, min}
+use mathlib.Core.Bool.{Bool, true, false, _&&_, true≢false, false≢true, and-false, and-eq-true-iff}
+use mathlib.Core.List.{List, [], _∷_}
+use mathlib.Core.Logic.{_↔_}
+use mathlib.Core.Path.{_≡_, refl, sym, ap, ap₂, subst, _∙_}
+use borrow.Author.Tests.{eq-eqb}
+use lib.Dec.{eqb}
+use lib.ListN.{length, take}
+use native.Mathlib.Omega.{arith}
+use Rattle.roles.specs.Sets.{sameSet}
+use Rattle.roles.specs.Members.{same-equal, equal-same}
+use Rattle.model.specs.declared.Person.{Person}
+use Rattle.text.specs.declared.Name.{Name}
+use Rattle.text.specs.Names.{sameName, placeOf, rows, rows-length, place-one-to-one}
+use Rattle.reading.specs.declared.policy.Policy.{Policy}
+use Rattle.reading.specs.Policy.{Said, laidOut}
+use Rattle.reading.specs.Reached.{Bounded}
+use Rattle.reading.specs.Told.{roles-laid, users-laid}
+use Rattle.judging.specs.Layout.{subject-laid}
+use Rattle.judging.specs.Verdict.{Subject, subjectIn, subjectOf}
+use Rattle.merging.specs.Directory.{sameLists, sameLabel, samePerson, sameDirectory, sameTables}
+use Rattle.merging.specs.Comparing.{same-names}
+
+-- ---- a test of two elements that is exact makes one of two lists
+
+module _ {A : Type 0} (same : A → A → Bool) (exact : (x y : A) → same x y ≡ true ↔ x ≡ y) where
+  -- the lists are the same exactly when they are equal
+  lists-exact : (xs ys : List A) → sameLists same xs ys ≡ true ↔ xs ≡ ys
+  unfolding sameLists
+  lists-exact [] [] = (λ _. refl, λ _. refl)
+  lists-exact [] (y ∷ ys) = (λ e. absurd (false≢true e), λ e. absurd (omega (arith, ap length e)))
+  lists-exact (x ∷ xs) [] = (λ e. absurd (false≢true e), λ e. absurd (omega (arith, ap length e)))
+  lists-exact (x ∷ xs) (y ∷ ys) = (
+    λ e. let both = and-eq-true-iff (same x y) (sameLists same xs ys) .0 e in ap₂ _∷_ (exact x y .0 (both .0)) (lists-exact xs ys .0 (both .1)),
+    λ e. ap₂ _&&_ (exact x y .1 (cc)) (lists-exact xs ys .1 (cc)),
+  )
+
+-- a name is the same as itself
+name-itself : (m : Name) → sameName m m ≡ true
+unfolding sameName
+name-itself m =
+    rw (eq-eqb (m .first) (m .first) refl, eq-eqb (m .second) (m .second) refl, eq-eqb (m .third) (m .third) refl, eq-eqb (m .fourth) (m .fourth) refl)
+
+-- names that are the same stand at one place
+name-exact : (m n : Name) → sameName m n ≡ true ↔ m ≡ n
+unfolding placeOf
+name-exact m n = (
+  λ e.
+      let here : placeOf (m ∷ []) m ≡ 0 = rw (name-itself m) in
+      let there : placeOf (m ∷ []) n ≡ 0 = rw e in
+      place-one-to-one (m ∷ []) m n (here ∙ sym there) (omega (arith, here)),
+  λ e. subst (λ (x : Name). sameName m x ≡ true) e (name-itself m),
+)
+
+-- labels are compared exactly
+label-exact : (l m : Bool) → sameLabel l m ≡ true ↔ l ≡ m
+unfolding sameLabel
+label-exact true true = (λ _. refl, λ _. refl)
+label-exact true false = (λ e. absurd (false≢true e), λ e. absurd (true≢false e))
+label-exact false true = (λ e. absurd (false≢true e), λ e. absurd (false≢true e))
+label-exact false false = (λ _. refl, λ _. refl)
+
+-- and so are a clearance and a set together
+person-exact : (p q : Person) → samePerson p q ≡ true ↔ p ≡ q
+unfolding samePerson
+person-exact p q = (
+  λ e.
+      let both = and-eq-true-iff (sameLabel (p .clearance) (q .clearance)) (sameSet (p .roles) (q .roles)) .0 e in
+      λ i. record { clearance = label-exact (p .clearance) (q .clearance) .0 (both .0) i; roles = same-equal (p .roles) (q .roles) (both .1) i },
+  λ e. subst (λ (x : Person). samePerson p x ≡ true) e (ap₂ _&&_ (label-exact (p .clearance) (p .clearance) .1 refl) (equal-same (p .roles))),
+)
+
+-- ---- the directories of two policy texts
+
+-- The same roles in order, the same users in order, with the same clearances and holdings.
+pub record SameDirectory (s s′ : Said) : Type 0 where
+  pub roles : s .roles ≡ s′ .roles
+  pub users : s .users ≡ s′ .users
+  pub holdings : s .holdings ≡ s′ .holdings
+
+-- They are compared exactly.
+pub same-exact : (s s′ : Said) → sameDirectory s s′ ≡ true ↔ SameDirectory s s′
+unfolding sameDirectory
+same-exact s s′ = (
+  λ e.
+      let two = and-eq-true-iff (sameLists sameName (s .roles) (s′ .roles) && sameLists sameName (s .users) (s′ .users)) (sameLists samePerson (s .holdings) (s′ .holdings)) .0 e in
+      let one = and-eq-true-iff (sameLists sameName (s .roles) (s′ .roles)) (sameLists sameName (s .users) (s′ .users)) .0 (two .0) in
+      record {
+        roles = lists-exact sameName name-exact (s .roles) (s′ .roles) .0 (one .0);
+        users = lists-exact sameName name-exact (s .users) (s′ .users) .0 (one .1);
+        holdings = lists-exact samePerson person-exact (s .holdings) (s′ .holdings) .0 (two .1);
+      },
+  λ d. ap₂ _&&_
+      (ap₂ _&&_ (lists-exact sameName name-exact (s .roles) (s′ .roles) .1 (d .roles)) (lists-exact sameName name-exact (s .users) (s′ .users) .1 (d .users)))
+      (lists-exact samePerson person-exact (s .holdings) (s′ .holdings) .1 (d .holdings)),
+)
+
+-- ---- the same of policies in arrays
+
+-- Two policies laid out are over the same directory where their texts are.
+pub directory-laid : {s s′ : Said} {p q : Policy} → Bounded s → Bounded s′ → p ≡ laidOut s → q ≡ laidOut s′ → sameTables p q ≡ sameDirectory s s′
+unfolding sameTables sameDirectory subjectOf
+directory-laid {s} {s′} {p} {q} bounded bounded′ laid laid′ =
+    ap₂ _&&_
+    (ap₂ _&&_ (ap₂ (sameLists sameName) (roles-laid s bounded laid) (roles-laid s′ bounded′ laid′)) (ap₂ (sameLists sameName) (users-laid s bounded laid) (users-laid s′ bounded′ laid′)))
+    (ap₂ (sameLists samePerson) (people bounded laid) (people bounded′ laid′))
+  where
+    people : {s : Said} {p : Policy} → Bounded s → p ≡ laidOut s → subjectIn p .holdings ≡ s .holdings
+    people b l = ap (λ (x : Subject). x .holdings) (ap subjectIn l ∙ subject-laid b)
+
+-- ---- how the answer for policies in arrays is found
+
+-- lists of different lengths differ
+lengths-differ : {A : Type 0} (same : A → A → Bool) (xs ys : List A) → (length xs ≡ length ys → ⊥) → sameLists same xs ys ≡ false
+unfolding sameLists
+lengths-differ same [] [] differ = absurd (differ refl)
+lengths-differ same [] (y ∷ ys) differ = refl
+lengths-differ same (x ∷ xs) [] differ = refl
+lengths-differ same (x ∷ xs) (y ∷ ys) differ = ap (λ (b : Bool). same x y && b) (lengths-differ same xs ys (λ e. differ (ap suc e))) ∙ and-false (same x y)
+
+module _ {m n : ℕ} (one two : List ℕ) where
+  -- tables of differently many names differ
+  pub counts-differ : (m ≡ n → ⊥) → sameLists sameName (rows m one) (rows n two) ≡ false
+  counts-differ differ = lengths-differ sameName (rows m one) (rows n two) (λ e. differ (sym (rows-length m one) ∙ e ∙ rows-length n two))
+
+  -- tables of as many names are compared by their words
+  pub words-told : m ≡ n → 4 * m ≤ length one → 4 * m ≤ length two → {answer b : Bool} → answer ≡ sameLists eqb (take (4 * m) one) (take (4 * m) two) → answer ≡ b → sameLists sameName (rows m one) (rows n two) ≡ b
+  words-told even room other given is = ap (λ (k : ℕ). sameLists sameName (rows m one) (rows k two)) (sym even) ∙ sym (same-names m one two room other) ∙ sym given ∙ is
+
+module _ (p q : Policy) where
+  -- the role names differ
+  pub roles-differ : sameLists sameName (rows (p .counts .roles) (p .roles)) (rows (q .counts .roles) (q .roles)) ≡ false → false ≡ sameTables p q
+  unfolding sameTables
+  roles-differ differ = rw differ
+
+  -- the user names differ
+  pub users-differ : sameLists sameName (rows (p .counts .users) (p .users)) (rows (q .counts .users) (q .users)) ≡ false → false ≡ sameTables p q
+  unfolding sameTables
+  users-differ differ = rw (differ, and-false)
+
+  -- the same names: the people decide
+  pub people-told : sameLists sameName (rows (p .counts .roles) (p .roles)) (rows (q .counts .roles) (q .roles)) ≡ true
+      → sameLists sameName (rows (p .counts .users) (p .users)) (rows (q .counts .users) (q .users)) ≡ true
+      → p .counts .users ≡ q .counts .users → p .counts .users ≤ 64
+      → {answer : Bool} → answer ≡ sameLists samePerson (take (p .counts .users) (p .persons)) (take (p .counts .users) (q .persons)) → answer ≡ sameTables p q
+  unfolding sameTables subjectIn
+  people-told roles users even few given =
+      let one : min (p .counts .users) 64 ≡ p .counts .users = omega arith in
+      let two : min (q .counts .users) 64 ≡ p .counts .users = omega arith in
+      rw (roles, users, one, two) given

@@ -1,0 +1,137 @@
+-- A typing that is read has a row for each role, and its sets have only declared roles.
+use Prim.Native.Nat.{ℕ, suc, _+_, _<_}
+use mathlib.Core.Bool.{Bool, true, false, _&&_, and-eq-true-iff, false≢true}
+use mathlib.Core.List.{List, List·Memᴰ as Listed, List·Memᴰ·not-nil as not-nil}
+use mathlib.Core.Path.{_≡_, refl, subst, _∙_}
+use borrow.Author.Tests.{ltb-true, eqb-true}
+use lib.Dec.{eqb, ltb}
+use lib.ListN.{length}
+use native.Mathlib.Numerals.{add-one}
+use native.Mathlib.Omega.{arith}
+use Rattle.roles.specs.declared.RoleSet.{RoleSet}
+use Rattle.roles.specs.Members.{_∈_, Sized}
+use Rattle.text.specs.declared.Name.{Name}
+use Rattle.text.specs.Forms.{namesOf}
+use Rattle.text.specs.Pieces.{split}
+use Rattle.reading.specs.Texts.{Judged, goes, ends, bad, read}
+use Rattle.reading.specs.Fields.{placed, isDeclared, allDeclared, rolesOf}
+use Rattle.reading.specs.Kept.{text-keeps}
+use Rattle.reading.specs.Exact.{read-exact}
+use Rattle.evidence.specs.declared.typing.TypingEntry.{TypingEntry}
+use Rattle.evidence.specs.Turns.{turnOf}
+use Rattle.evidence.specs.TypingLines.{Line, header, row, end, other, lineOf, wellFormed, named, entry, answerTo, judged, typingLine}
+use Rattle.evidence.specs.TypingText.{Typed, untyped, added, answered, judgeLine, readTyping}
+use Rattle.verdicts.specs.Sizes.{roles-sized, each-more}
+use Rattle.verdicts.specs.TypingLaid.{read-rows}
+use Rattle.rereading.specs.Roles.{role-passes}
+
+-- The words of a set are of 64 bits, and all its roles are below a number.
+pub record Inside (roles : ℕ) (s : RoleSet) : Type 0 where
+  pub sized : Sized s
+  pub below : {role : ℕ} → role ∈ s → role < roles
+
+-- A label, a plus set and a minus set for each name, and the sets have only the roles of names.
+pub record Fits (names : List Name) (t : Typed) : Type 0 where
+  pub stage : t .stage ≡ suc (length names)
+  pub labels : length (t .labels) ≡ length names
+  pub plus : length (t .plus) ≡ length names
+  pub minus : length (t .minus) ≡ length names
+  pub plus-inside : (s : RoleSet) → Listed s (t .plus) → Inside (length names) s
+  pub minus-inside : (s : RoleSet) → Listed s (t .minus) → Inside (length names) s
+
+-- the roles of a set field whose names are declared
+roles-inside : (names : List Name) (field : List ℕ) → allDeclared names field ≡ true → Inside (length names) (rolesOf names field)
+unfolding rolesOf allDeclared isDeclared
+roles-inside names field known = record {
+  sized = roles-sized names field;
+  below = λ {role} found. ltb-true role (length names) (role-passes names (λ place. ltb place (length names)) (namesOf field) known found);
+}
+
+-- ---- what a judged line means for the rows above it
+
+-- all their sets have only the roles of names
+record Sets (roles : ℕ) (t : Typed) : Type 0 where
+  plus : (s : RoleSet) → Listed s (t .plus) → Inside roles s
+  minus : (s : RoleSet) → Listed s (t .minus) → Inside roles s
+
+-- a line that is added keeps the roles declared, and `end` stands after a row for each role
+abbrev Means : ℕ → Typed → Judged Typed → Type 0
+Means roles s (goes t) = Sets roles t
+Means roles s ends = s .stage ≡ suc roles
+Means roles s (bad number) = Unit {0}
+
+-- only a line that is well formed, with known names, counts
+answered-means : (roles : ℕ) (s : Typed) (formed known : Bool) (e : TypingEntry) → (formed ≡ true → known ≡ true → Means roles s (added s e)) → Means roles s (answered s (answerTo (turnOf formed known) e))
+unfolding answered answerTo turnOf
+answered-means roles s true true e good = good refl refl
+answered-means roles s true false e good = tt
+answered-means roles s false known e good = tt
+
+-- what the test of each kind of line says
+row-known : (stage : ℕ) (names : List Name) (name label plus minus : List ℕ) → named stage names (row name label plus minus) ≡ true → (allDeclared names plus ≡ true) × (allDeclared names minus ≡ true)
+unfolding named
+row-known stage names name label plus minus known =
+    and-eq-true-iff (allDeclared names plus) (allDeclared names minus) .0 (and-eq-true-iff (eqb (placed names name + 1) stage) (allDeclared names plus && allDeclared names minus) .0 known .1)
+
+end-stage : (stage roles : ℕ) → wellFormed stage roles end ≡ true → stage ≡ suc roles
+unfolding wellFormed
+end-stage stage roles formed = eqb-true stage (roles + 1) formed ∙ add-one roles
+
+other-bad : (stage roles : ℕ) → wellFormed stage roles other ≡ true → ⊥
+unfolding wellFormed
+other-bad stage roles formed = false≢true formed
+
+-- a good line, by its fields
+entry-means : (names : List Name) (s : Typed) (line : Line) → Sets (length names) s → wellFormed (s .stage) (length names) line ≡ true → named (s .stage) names line ≡ true → Means (length names) s (added s (entry names line))
+unfolding added entry
+entry-means names s (header edition) sets formed known = record { plus = sets .plus; minus = sets .minus }
+entry-means names s (row name label plus minus) sets formed known =
+    let both = row-known (s .stage) names name label plus minus known in
+    record {
+      plus = each-more (Inside (length names)) (s .plus) (sets .plus) (roles-inside names plus (both .0));
+      minus = each-more (Inside (length names)) (s .minus) (sets .minus) (roles-inside names minus (both .1));
+    }
+entry-means names s end sets formed known = end-stage (s .stage) (length names) formed
+entry-means names s other sets formed known = absurd (other-bad (s .stage) (length names) formed)
+
+-- and any line
+line-means : (names : List Name) (s : Typed) (line : List ℕ) → Sets (length names) s → Means (length names) s (judgeLine names s line)
+unfolding judgeLine typingLine judged
+line-means names s line sets =
+    let says = lineOf (split 9 line) in
+    answered-means (length names) s (wellFormed (s .stage) (length names) says) (named (s .stage) names says) (entry names says) (entry-means names s says sets)
+
+-- ---- the typing that is read
+
+-- no rows
+untyped-sets : (roles : ℕ) → Sets roles untyped
+unfolding untyped
+untyped-sets roles = record { plus = λ s listed. absurd (not-nil listed); minus = λ s listed. absurd (not-nil listed) }
+
+-- its rows are those of good lines
+read-sets : (names : List Name) (text : List ℕ) {t : Typed} → readTyping names text ≡ read t → Sets (length names) t
+unfolding readTyping
+read-sets names text {t} is =
+    text-keeps (judgeLine names) 15 (Sets (length names)) (λ s u line leads sets. subst (Means (length names) s) leads (line-means names s line sets)) 14 untyped t text is (untyped-sets (length names))
+
+-- its last line is `end`
+read-stage : (names : List Name) (text : List ℕ) {t : Typed} → readTyping names text ≡ read t → t .stage ≡ suc (length names)
+unfolding readTyping
+read-stage names text {t} is =
+    let whole = read-exact (judgeLine names) 15 14 untyped text t .0 is in
+    subst (Means (length names) t) (whole .is-end) (line-means names t (whole .line) (read-sets names text is))
+
+-- A typing that is read fits the names it is read over.
+pub fits-read : (names : List Name) (text : List ℕ) {t : Typed} → readTyping names text ≡ read t → Fits names t
+fits-read names text {t} is =
+    let all = read-stage names text is in
+    let rows = read-rows names text is .rowed in
+    let sets = read-sets names text is in
+    record {
+      stage = all;
+      labels = omega (arith, all, rows .labels);
+      plus = omega (arith, all, rows .plus);
+      minus = omega (arith, all, rows .minus);
+      plus-inside = sets .plus;
+      minus-inside = sets .minus;
+    }
