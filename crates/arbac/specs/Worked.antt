@@ -1,4 +1,4 @@
--- Document 01's worked cases from their raw texts: P1 to P10, the two typings of P12, each alone, and P13.
+-- Document 01's worked cases from their raw texts: P1 to P10, P12 with its two typings, each alone and merged, and P13.
 use Prim.Native.Nat.{ℕ}
 use mathlib.Core.List.{List, [], _∷_, _++_, map}
 use mathlib.Core.Path.{_≡_, refl}
@@ -11,6 +11,7 @@ use Rattle.model.specs.Meaning.{meaning}
 use Rattle.bytes.specs.Bytes.{indexOf}
 use Rattle.model.specs.Policy.{revoked}
 use Rattle.text.specs.Forms.{bytes, isNumber, decimal, numberOf}
+use Rattle.text.specs.Names.{sameName}
 use Rattle.reading.specs.Policy.{policyOf, padded}
 use Rattle.reading.specs.Worked.{reading}
 use Rattle.evidence.specs.Turns.{turnOf}
@@ -22,21 +23,29 @@ use Rattle.evidence.specs.Place.{isTyping}
 use Rattle.steps.specs.First.{first, firstFrom}
 use Rattle.steps.specs.Tests.{mayAssign, mayRevoke, withTarget, withoutTarget, lowestGoal, ownGoal, badPerson, goalOf, firstBad}
 use Rattle.steps.specs.Traces.{assignAt, revokeAt, possible, after, later, runOf}
-use Rattle.judging.specs.declared.Part.{Part}
-use Rattle.judging.specs.Verdict.{firstFrom as firstFailure, firstFailing, subjectOf, firstHolding, firstAssign, firstRevoke, firstGoal, failingPart, andThen, judgedRules, judgedTyping, typingVerdict, pinnedBelow, pinnedNames}
+use Rattle.judging.specs.Verdict.{firstFrom as firstFailure, firstFailing, subjectOf, firstHolding, firstAssign, firstRevoke, firstGoal, failingPart, andThen, judgedRules, judgedTyping, typingVerdict, rulesVerdict, pinnedBelow, pinnedNames}
 use Rattle.running.specs.Verdict.{lastVerdict, ranVerdict, readVerdict, traceVerdict}
-use Rattle.arbac.specs.declared.Answer.{Answer}
+use Rattle.merging.specs.Directory.{sameLists, sameLabel, samePerson, sameDirectory}
+use Rattle.merging.specs.Outcome.{answerIn, whenRead}
+use Rattle.merging.specs.Merge.{whenSame, whenAccepted, mergeJudged, mergeOutcome}
+use Rattle.merging.specs.Merge as merge
 use Rattle.arbac.specs.Answers.{judgedAnswer, typingAnswer, traceAnswer, evidenceAnswer, answerAfter, answerOf}
+use Rattle.arbac.specs.Answers as answer
 
 -- opens every definition of judging
 unfoldable judging : Unit {0}
 unfolding bit emptySet hasRole singleOf unionOf meetOf withOf lessOf withoutOf sameSet sharesRole includes sizeOf ones meaning addIf roleStep stepsBelow roundOf samePair roundsOf closeOf everyBelow someBelow implies typeOf inconsistentRole roleSuits personPasses holdsHigh unopposedTarget unneededTarget targetSuits assignPasses revokePasses goalPasses firstFailure firstFailing policyOf subjectOf firstHolding firstAssign firstRevoke firstGoal failingPart andThen judgedRules judgedTyping typingVerdict pinnedBelow pinnedNames
 judging = tt
 
--- A policy text and a piece of evidence.
-pub record Case : Type 0 where
-  pub policy : List ℕ
-  pub evidence : List ℕ
+-- What is asked: check of a policy text and a piece of evidence, or the merge of two policies with a typing each.
+pub data Case : Type 0 where
+  checks : (policy evidence : List ℕ) → Case
+  merges : (policy₁ typing₁ policy₂ typing₂ : List ℕ) → Case
+
+-- Document 01's number of the answer and its values; a merge is lent a buffer of 100 bytes.
+unfoldable pub told : Case → List ℕ
+told (checks policy evidence) = let a = answerOf policy evidence in answer.numberOf a ∷ answer.valuesOf a
+told (merges policy₁ typing₁ policy₂ typing₂) = let a = answerIn (mergeOutcome policy₁ typing₁ policy₂ typing₂ 100) in merge.numberOf a ∷ merge.valuesOf a
 
 -- the desk policy, the loose desk, and the loose desk with bob H
 abbrev desk : (clearance negative : List ℕ) → List ℕ
@@ -65,39 +74,53 @@ guard rules = bytes "arbac\t1\nrole\tadm\nrole\tx\nrole\ty\nrole\tz\nuser\tann\t
 abbrev guard-assigns : List ℕ
 guard-assigns = bytes "assign\tadm\tz\t-\tx\nassign\tadm\t-\tz\ty\nassign\tadm\t-\ty\tz\n"
 
--- each case, and below it its answer; a user is told by the place, from 0
+-- typings of A and of B
+abbrev typing-a : List ℕ
+typing-a = bytes "typing\t1\nadm\tH\t-\t-\nx\tL\tz\t-\ny\tL\t-\tz\nz\tL\t-\ty\nend\n"
+
+abbrev typing-b : List ℕ
+typing-b = bytes "typing\t1\nadm\tH\t-\t-\nx\tL\t-\t-\ny\tL\t-\t-\nz\tL\t-\t-\nend\n"
+
+abbrev policy-a : List ℕ
+policy-a = guard (guard-assigns ++ bytes "goal\tx,y\n")
+
+abbrev policy-b : List ℕ
+policy-b = guard (bytes "revoke\tadm\tz\ngoal\tadm\n")
+
+-- each case, and below it its number and values: parts are numbered from 1, holdings first, and so are users
 pub worked-cases :
-    map (λ (c : Case). answerOf (c .policy) (c .evidence))
-    ((record { policy = strict; evidence = t1 (bytes "-") (bytes "L") })
-    ∷ (record { policy = strict; evidence = bytes "typing\t1\nadm\tL\t-\t-\npay\tL\t-\t-\nbuy\tL\t-\t-\nend\n" })
-    ∷ (record { policy = strict; evidence = t1 (bytes "-") (bytes "H") })
-    ∷ (record { policy = strict; evidence = t1 (bytes "adm") (bytes "L") })
-    ∷ (record { policy = loose; evidence = t1 (bytes "-") (bytes "L") })
-    ∷ (record { policy = loose; evidence = two-steps (bytes "2") (bytes "1") })
-    ∷ (record { policy = loose; evidence = two-steps (bytes "1") (bytes "2") })
-    ∷ (record { policy = loose; evidence = two-steps (bytes "1") (bytes "1") })
-    ∷ (record { policy = loose; evidence = bytes "trace\t1\nend\n" })
-    ∷ (record { policy = desk (bytes "H") (bytes "-"); evidence = two-steps (bytes "2") (bytes "1") })
-    ∷ (record { policy = guard (guard-assigns ++ bytes "goal\tx,y\n"); evidence = bytes "typing\t1\nadm\tH\t-\t-\nx\tL\tz\t-\ny\tL\t-\tz\nz\tL\t-\ty\nend\n" })
-    ∷ (record { policy = guard (bytes "revoke\tadm\tz\ngoal\tadm\n"); evidence = bytes "typing\t1\nadm\tH\t-\t-\nx\tL\t-\t-\ny\tL\t-\t-\nz\tL\t-\t-\nend\n" })
-    ∷ (record {
-      policy = guard (guard-assigns ++ bytes "revoke\tadm\tz\ngoal\tx,y\ngoal\tadm\n");
-      evidence = bytes "trace\t1\nassign\tann\t3\tbob\nassign\tann\t1\tbob\nrevoke\tann\t1\tbob\nassign\tann\t2\tbob\nend\n";
-    })
+    map told
+    ((checks strict (t1 (bytes "-") (bytes "L")))
+    ∷ (checks strict (bytes "typing\t1\nadm\tL\t-\t-\npay\tL\t-\t-\nbuy\tL\t-\t-\nend\n"))
+    ∷ (checks strict (t1 (bytes "-") (bytes "H")))
+    ∷ (checks strict (t1 (bytes "adm") (bytes "L")))
+    ∷ (checks loose (t1 (bytes "-") (bytes "L")))
+    ∷ (checks loose (two-steps (bytes "2") (bytes "1")))
+    ∷ (checks loose (two-steps (bytes "1") (bytes "2")))
+    ∷ (checks loose (two-steps (bytes "1") (bytes "1")))
+    ∷ (checks loose (bytes "trace\t1\nend\n"))
+    ∷ (checks (desk (bytes "H") (bytes "-")) (two-steps (bytes "2") (bytes "1")))
+    ∷ (checks policy-a typing-a)
+    ∷ (checks policy-b typing-b)
+    ∷ (merges policy-a typing-a policy-b typing-b)
+    ∷ (checks
+    (guard (guard-assigns ++ bytes "revoke\tadm\tz\ngoal\tx,y\ngoal\tadm\n"))
+    (bytes "trace\t1\nassign\tann\t3\tbob\nassign\tann\t1\tbob\nrevoke\tann\t1\tbob\nassign\tann\t2\tbob\nend\n"))
     ∷ [])
-    ≡ ((Answer.Safe 3 2 0 1 2)
-    ∷ (Answer.Unproved Part.Goal 1)
-    ∷ (Answer.Unproved Part.Assign 1)
-    ∷ (Answer.Unproved Part.Holdings 1)
-    ∷ (Answer.Unproved Part.Assign 1)
-    ∷ (Answer.Attacked 2 1 1)
-    ∷ (Answer.Broken 2)
-    ∷ (Answer.Broken 2)
-    ∷ (Answer.Short 0)
-    ∷ (Answer.Short 2)
-    ∷ (Answer.Safe 4 3 0 1 3)
-    ∷ (Answer.Safe 4 0 1 1 0)
-    ∷ (Answer.Attacked 4 1 1)
+    ≡ ((0 ∷ 3 ∷ 2 ∷ 0 ∷ 1 ∷ 2 ∷ [])
+    ∷ (2 ∷ 4 ∷ 1 ∷ [])
+    ∷ (2 ∷ 2 ∷ 1 ∷ [])
+    ∷ (2 ∷ 1 ∷ 1 ∷ [])
+    ∷ (2 ∷ 2 ∷ 1 ∷ [])
+    ∷ (1 ∷ 2 ∷ 2 ∷ 1 ∷ [])
+    ∷ (3 ∷ 2 ∷ [])
+    ∷ (3 ∷ 2 ∷ [])
+    ∷ (4 ∷ 0 ∷ [])
+    ∷ (4 ∷ 2 ∷ [])
+    ∷ (0 ∷ 4 ∷ 3 ∷ 0 ∷ 1 ∷ 3 ∷ [])
+    ∷ (0 ∷ 4 ∷ 0 ∷ 1 ∷ 1 ∷ 0 ∷ [])
+    ∷ (2 ∷ 3 ∷ 3 ∷ 1 ∷ [])
+    ∷ (1 ∷ 4 ∷ 2 ∷ 1 ∷ [])
     ∷ [])
-unfolding reading judging padded indexOf revoked isNumber decimal first firstFrom numberOf turnOf typing.oneField typing.twoFields typing.lineOf typing.wellFormed typing.named typing.entry typing.answerTo typing.judged typing.typingLine typings.untyped typings.added typings.answered typings.judgeLine typings.readTyping typings.tableOf trace.fourFields trace.oneField trace.twoFields trace.lineOf trace.isStep trace.stepNamed trace.wellFormed trace.named trace.entry trace.answerTo trace.judged trace.traceLine traces.untraced traces.added traces.answered traces.judgeLine traces.readTrace isTyping mayAssign mayRevoke withTarget withoutTarget lowestGoal ownGoal badPerson goalOf firstBad assignAt revokeAt possible after later runOf lastVerdict ranVerdict readVerdict traceVerdict judgedAnswer typingAnswer traceAnswer evidenceAnswer answerAfter answerOf
+unfolding reading judging padded indexOf revoked isNumber decimal first firstFrom numberOf turnOf typing.oneField typing.twoFields typing.lineOf typing.wellFormed typing.named typing.entry typing.answerTo typing.judged typing.typingLine typings.untyped typings.added typings.answered typings.judgeLine typings.readTyping typings.tableOf trace.fourFields trace.oneField trace.twoFields trace.lineOf trace.isStep trace.stepNamed trace.wellFormed trace.named trace.entry trace.answerTo trace.judged trace.traceLine traces.untraced traces.added traces.answered traces.judgeLine traces.readTrace isTyping mayAssign mayRevoke withTarget withoutTarget lowestGoal ownGoal badPerson goalOf firstBad assignAt revokeAt possible after later runOf lastVerdict ranVerdict readVerdict traceVerdict judgedAnswer typingAnswer traceAnswer evidenceAnswer answerAfter answerOf rulesVerdict sameName sameLists sameLabel samePerson sameDirectory whenRead answerIn whenSame whenAccepted mergeJudged mergeOutcome told
 worked-cases = refl
