@@ -3,7 +3,6 @@ use Prim.Native.Nat.{ℕ}
 use mathlib.Core.Bool.{Bool, true, false, cond}
 use mathlib.Core.List.{List}
 use mathlib.Core.Path.{_≡_, refl, sym, ap, ap₂, subst, _∙_}
-use native.Mathlib.Omega.{arith}
 use Rattle.text.specs.declared.Name.{Name}
 use Rattle.text.specs.Names.{rows}
 use Rattle.model.specs.declared.Typing.{Typing as Table}
@@ -15,9 +14,9 @@ use Rattle.reading.specs.Policy.{Said, countsOf, laidOut, readPolicy, policyRea
 use Rattle.reading.specs.Reached.{Bounded}
 use Rattle.reading.specs.Told.{counts-laid, roles-laid}
 use Rattle.evidence.specs.declared.typing.TypingRead.{TypingRead}
-use Rattle.evidence.specs.TypingText.{Typed, readTyping, tableOf, refusedTyping, answerOf as typingRecord, typingRead}
+use Rattle.evidence.specs.TypingText.{readTyping, typingRead}
+use Rattle.evidence.specs.TypingTold.{typing-told, typing-untold}
 use Rattle.evidence.specs.Place.{isTyping}
-use Rattle.evidence.specs.Exact.{EvidenceRefusal, TypingRefusal, typing-refusal-exact}
 use Rattle.judging.specs.Layout.{subject-laid}
 use Rattle.judging.specs.declared.Part.{Part}
 use Rattle.judging.specs.declared.TypingVerdict.{TypingVerdict}
@@ -40,30 +39,16 @@ module _ (c : Counts) (t : Table) {v : TypingVerdict} where
 
 -- ---- a typing text over a policy
 
-module _ (c : Counts) (subject : Subject) (names : List Name) (text : List ℕ) where
-  -- no refusal of a typing has the number 0
-  refusal-number : {k n : ℕ} → TypingRefusal names text k n → k ≡ 0 → ⊥
-  refusal-number (EvidenceRefusal.too-long long) e = omega arith
-  refusal-number (EvidenceRefusal.malformed at a) e = omega arith
-  refusal-number (EvidenceRefusal.misnamed at m) e = omega arith
-  refusal-number (EvidenceRefusal.no-end fits above tail) e = omega arith
-  refusal-number (EvidenceRefusal.after-end at l) e = omega arith
+module _ (c : Counts) (subject : Subject) (names : List Name) (text : List ℕ) {T : TypingRead} (given : T ≡ typingRead names text) where
+  pub typing-refused : (T .refusal ≡ 0 → ⊥) → Answer.Refused (T .refusal) (T .line) ≡ typingAnswer c subject (readTyping names text)
+  unfolding typingAnswer
+  typing-refused some = sym (ap (typingAnswer c subject) (typing-untold names text given some))
 
-  pub typing-refused : {T : TypingRead} → T ≡ typingRead names text → (T .refusal ≡ 0 → ⊥) → Answer.Refused (T .refusal) (T .line) ≡ typingAnswer c subject (readTyping names text)
-  unfolding typingRead typingRecord refusedTyping typingAnswer
-  typing-refused {T} given some = go (readTyping names text) given
-    where
-      go : (r : Reading Typed) → T ≡ typingRecord r → Answer.Refused (T .refusal) (T .line) ≡ typingAnswer c subject r
-      go (read t) is = absurd (some (ap (λ (q : TypingRead). q .refusal) is))
-      go (refused k n) is = ap₂ Answer.Refused (ap (λ (q : TypingRead). q .refusal) is) (ap (λ (q : TypingRead). q .line) is)
-
-  pub typing-judged : {T : TypingRead} → T ≡ typingRead names text → T .refusal ≡ 0 → judgedAnswer c (T .typing) (judgedTyping subject (T .typing)) ≡ typingAnswer c subject (readTyping names text)
-  unfolding typingRead typingRecord refusedTyping typingAnswer
-  typing-judged {T} given none = go (readTyping names text) refl given
-    where
-      go : (r : Reading Typed) → readTyping names text ≡ r → T ≡ typingRecord r → judgedAnswer c (T .typing) (judgedTyping subject (T .typing)) ≡ typingAnswer c subject r
-      go (read t) is same = ap (λ (q : TypingRead). judgedAnswer c (q .typing) (judgedTyping subject (q .typing))) same
-      go (refused k n) is same = absurd (refusal-number (typing-refusal-exact names text k n .0 is) (sym (ap (λ (q : TypingRead). q .refusal) same) ∙ none))
+  pub typing-judged : T .refusal ≡ 0 → judgedAnswer c (T .typing) (judgedTyping subject (T .typing)) ≡ typingAnswer c subject (readTyping names text)
+  unfolding typingAnswer
+  typing-judged none =
+      let t = typing-told names text given none in
+      ap (λ (table : Table). judgedAnswer c table (judgedTyping subject table)) (t .laid) ∙ sym (ap (typingAnswer c subject) (t .is))
 
 -- ---- both texts
 

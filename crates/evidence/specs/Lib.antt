@@ -9,4 +9,5 @@ pub mod TraceReached
 pub mod Place
 pub mod PlaceLaws
 pub mod Exact
+pub mod TypingTold
 pub mod Worked

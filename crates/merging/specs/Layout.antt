@@ -1,7 +1,7 @@
 -- What is read into arrays: a policy text laid out, and a typing text over its roles.
 use Prim.Native.Nat.{ℕ, _*_, _≤_}
 use mathlib.Core.List.{List}
-use mathlib.Core.Path.{_≡_, refl, sym, ap, ap₂, _∙_}
+use mathlib.Core.Path.{_≡_, sym, ap, _∙_}
 use lib.ListN.{length}
 use native.Mathlib.Omega.{arith}
 use Rattle.model.specs.declared.Typing.{Typing as Table}
@@ -10,13 +10,13 @@ use Rattle.text.specs.Names.{rows}
 use Rattle.reading.specs.declared.lines.Counts.{Counts}
 use Rattle.reading.specs.declared.policy.Policy.{Policy}
 use Rattle.reading.specs.declared.policy.PolicyRead.{PolicyRead}
-use Rattle.reading.specs.Texts.{Reading, read, refused}
+use Rattle.reading.specs.Texts.{refused}
 use Rattle.reading.specs.Policy.{Said, countsOf, laidOut}
 use Rattle.reading.specs.Reached.{Bounded}
 use Rattle.reading.specs.Told.{Told, counts-laid, roles-laid, tables-laid}
 use Rattle.evidence.specs.declared.typing.TypingRead.{TypingRead}
-use Rattle.evidence.specs.TypingText.{Typed, readTyping, tableOf, refusedTyping, answerOf, typingRead}
-use Rattle.evidence.specs.Exact.{EvidenceRefusal, TypingRefusal, typing-refusal-exact}
+use Rattle.evidence.specs.TypingText.{readTyping, typingRead}
+use Rattle.evidence.specs.TypingTold.{TypingTold, typing-told, typing-untold}
 use Rattle.judging.specs.declared.TypingVerdict.{TypingVerdict}
 use Rattle.judging.specs.Verdict.{subjectIn, judgedTyping, judgedRules, typingVerdict, rulesVerdict}
 use Rattle.judging.specs.Layout.{typing-laid, rules-laid}
@@ -69,27 +69,13 @@ module _ {s : Said} {p : Policy} (l : Laid s p) where
 
   -- a verdict on the arrays is that on the text
   module _ (t : Table) {verdict : TypingVerdict} where
-    pub typing-told : judgedTyping (subjectIn p) t ≡ verdict → typingVerdict s t ≡ verdict
-    typing-told is = sym (ap (λ (q : Policy). judgedTyping (subjectIn q) t) (l .laid) ∙ typing-laid t (l .bounded)) ∙ is
+    pub verdict-told : judgedTyping (subjectIn p) t ≡ verdict → typingVerdict s t ≡ verdict
+    verdict-told is = sym (ap (λ (q : Policy). judgedTyping (subjectIn q) t) (l .laid) ∙ typing-laid t (l .bounded)) ∙ is
 
     pub rules-told : judgedRules (subjectIn p) t ≡ verdict → rulesVerdict s t ≡ verdict
     rules-told is = sym (ap (λ (q : Policy). judgedRules (subjectIn q) t) (l .laid) ∙ rules-laid t (l .bounded)) ∙ is
 
 -- ---- a typing text
-
--- The text is read, and the record has what it says.
-pub record TypingTold (names : List Name) (text : List ℕ) (T : TypingRead) : Type 0 where
-  pub typed : Typed
-  pub is : readTyping names text ≡ read typed
-  pub laid : T .typing ≡ tableOf typed
-
--- no refusal of a typing has the number 0
-refusal-number : (names : List Name) (text : List ℕ) {k n : ℕ} → TypingRefusal names text k n → k ≡ 0 → ⊥
-refusal-number names text (EvidenceRefusal.too-long long) e = omega arith
-refusal-number names text (EvidenceRefusal.malformed at a) e = omega arith
-refusal-number names text (EvidenceRefusal.misnamed at m) e = omega arith
-refusal-number names text (EvidenceRefusal.no-end fits above tail) e = omega arith
-refusal-number names text (EvidenceRefusal.after-end at l) e = omega arith
 
 module _ {s : Said} {p : Policy} (l : Laid s p) (text : List ℕ) {T : TypingRead} (given : T ≡ typingRead (rows (p .counts .roles) (p .roles)) text) where
   -- over the names of the text
@@ -98,18 +84,8 @@ module _ {s : Said} {p : Policy} (l : Laid s p) (text : List ℕ) {T : TypingRea
 
   -- no refusal: the text is read
   pub typing-read : T .refusal ≡ 0 → TypingTold (s .roles) text T
-  unfolding typingRead answerOf refusedTyping
-  typing-read none = go (readTyping (s .roles) text) refl over
-    where
-      go : (r : Reading Typed) → readTyping (s .roles) text ≡ r → T ≡ answerOf r → TypingTold (s .roles) text T
-      go (read t) is same = record { typed = t; is = is; laid = ap (λ (q : TypingRead). q .typing) same }
-      go (refused k n) is same = absurd (refusal-number (s .roles) text (typing-refusal-exact (s .roles) text k n .0 is) (sym (ap (λ (q : TypingRead). q .refusal) same) ∙ none))
+  typing-read none = typing-told (s .roles) text over none
 
   -- a refusal, with its number and line
   pub typing-refused : (T .refusal ≡ 0 → ⊥) → readTyping (s .roles) text ≡ refused (T .refusal) (T .line)
-  unfolding typingRead answerOf refusedTyping
-  typing-refused some = go (readTyping (s .roles) text) refl over
-    where
-      go : (r : Reading Typed) → readTyping (s .roles) text ≡ r → T ≡ answerOf r → readTyping (s .roles) text ≡ refused (T .refusal) (T .line)
-      go (read t) is same = absurd (some (ap (λ (q : TypingRead). q .refusal) same))
-      go (refused k n) is same = is ∙ sym (ap₂ refused (ap (λ (q : TypingRead). q .refusal) same) (ap (λ (q : TypingRead). q .line) same))
+  typing-refused some = typing-untold (s .roles) text over some

@@ -22,7 +22,7 @@ use Rattle.merging.specs.Directory.{sameDirectory, sameTables}
 use Rattle.merging.specs.DirectoryLaws.{directory-laid}
 use Rattle.merging.specs.Outcome.{leaves, fitting, Meets}
 use Rattle.merging.specs.Meeting.{meets-as, when-read, when-refused, text-some, met-said, none-written, all-written}
-use Rattle.merging.specs.Layout.{Laid, counts-are, roles-are, typing-told, rules-told}
+use Rattle.merging.specs.Layout.{Laid, counts-are, roles-are, verdict-told, rules-told}
 use Rattle.merging.specs.Merge.{whenSame, whenAccepted, countsFit, mergeWritten, mergeCounted, mergeJudged, mergeOutcome}
 
 -- ---- the four texts
@@ -71,27 +71,27 @@ module _ {s s′ : Said} {p q : Policy} (l : Laid s p) (l′ : Laid s′ q) (t u
     -- typing one fails on policy one, typing two on policy two, typing one on rules two, or typing two on rules one
     pub fails-one : {part : Part} {number : ℕ} → judgedTyping (subjectIn p) t ≡ TypingVerdict.Fails part number → whenSame s s′ (mergeJudged room s t s′ u) ≡ leaves (MergeAnswer.Unproved 1 part number)
     unfolding whenSame mergeJudged whenAccepted
-    fails-one one = rw (same-told same, typing-told l t one)
+    fails-one one = rw (same-told same, verdict-told l t one)
 
     module _ (one : judgedTyping (subjectIn p) t ≡ TypingVerdict.Accepted) where
       pub fails-two : {part : Part} {number : ℕ} → judgedTyping (subjectIn q) u ≡ TypingVerdict.Fails part number → whenSame s s′ (mergeJudged room s t s′ u) ≡ leaves (MergeAnswer.Unproved 2 part number)
       unfolding whenSame mergeJudged whenAccepted
-      fails-two two = rw (same-told same, typing-told l t one, typing-told l′ u two)
+      fails-two two = rw (same-told same, verdict-told l t one, verdict-told l′ u two)
 
       module _ (two : judgedTyping (subjectIn q) u ≡ TypingVerdict.Accepted) where
         pub fails-three : {part : Part} {number : ℕ} → judgedRules (subjectIn q) t ≡ TypingVerdict.Fails part number → whenSame s s′ (mergeJudged room s t s′ u) ≡ leaves (MergeAnswer.Unproved 3 part number)
         unfolding whenSame mergeJudged whenAccepted
-        fails-three three = rw (same-told same, typing-told l t one, typing-told l′ u two, rules-told l′ t three)
+        fails-three three = rw (same-told same, verdict-told l t one, verdict-told l′ u two, rules-told l′ t three)
 
         module _ (three : judgedRules (subjectIn q) t ≡ TypingVerdict.Accepted) where
           pub fails-four : {part : Part} {number : ℕ} → judgedRules (subjectIn p) u ≡ TypingVerdict.Fails part number → whenSame s s′ (mergeJudged room s t s′ u) ≡ leaves (MergeAnswer.Unproved 4 part number)
           unfolding whenSame mergeJudged whenAccepted
-          fails-four four = rw (same-told same, typing-told l t one, typing-told l′ u two, rules-told l′ t three, rules-told l u four)
+          fails-four four = rw (same-told same, verdict-told l t one, verdict-told l′ u two, rules-told l′ t three, rules-told l u four)
 
           -- none fails
           pub all-accepted : judgedRules (subjectIn p) u ≡ TypingVerdict.Accepted → whenSame s s′ (mergeJudged room s t s′ u) ≡ mergeCounted room s s′ (sumOf t u)
           unfolding whenSame mergeJudged whenAccepted
-          all-accepted four = rw (same-told same, typing-told l t one, typing-told l′ u two, rules-told l′ t three, rules-told l u four)
+          all-accepted four = rw (same-told same, verdict-told l t one, verdict-told l′ u two, rules-told l′ t three, rules-told l u four)
 
 -- ---- the joint counts and the text of the sum
 
