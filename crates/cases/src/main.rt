@@ -1,23 +1,8 @@
 // Runs the cases that its arguments name, three words each: the case's name, its policy file and its evidence file. It prints the
 // name, which text the bad line is in, its start and its end, and the line that `check` prints.
-ghost use Rattle.io.specs.Counts.{Counts};
+use files::load_argument;
+use files::print_field;
 use libc::STDOUT_FILENO;
-
-// Puts the file that an argument names into the buffer, and answers how many bytes there are; 0 where it can't be read.
-fn load(argument: usize, buffer: &mut [u8]) -> usize
-    ensures { λ r. ⌜ Counts r (now (buffer .exit)) ⌝ }
-{
-    let mut name = [0u8; 64];
-    let length = os::arg(argument, &mut name);
-    let loaded = files::load(&name[..length], buffer);
-    loaded.count
-}
-
-// Writes a tab and a number.
-fn field(number: usize) {
-    io::write_all(STDOUT_FILENO, b"\t");
-    io::print_decimal(STDOUT_FILENO, number as u64);
-}
 
 // Writes where the bad line stands.
 fn show_bad_line(policy: &[u8], evidence: &[u8]) {
@@ -27,8 +12,8 @@ fn show_bad_line(policy: &[u8], evidence: &[u8]) {
     } else {
         io::write_all(STDOUT_FILENO, b"\tpolicy");
     }
-    field(place.from);
-    field(place.to);
+    print_field(place.from);
+    print_field(place.to);
 }
 
 // Writes what `check` prints.
@@ -45,8 +30,8 @@ fn run(case: usize, first: usize, second: usize) {
     let mut evidence = [0u8; 32769];
     let mut name = [0u8; 64];
     let length = os::arg(case, &mut name);
-    let policy_length = load(first, &mut policy);
-    let evidence_length = load(second, &mut evidence);
+    let policy_length = load_argument(first, &mut policy);
+    let evidence_length = load_argument(second, &mut evidence);
     io::write_all(STDOUT_FILENO, &name[..length]);
     show_bad_line(&policy[..policy_length], &evidence[..evidence_length]);
     show_line(&policy[..policy_length], &evidence[..evidence_length]);

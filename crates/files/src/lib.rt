@@ -1,4 +1,4 @@
-// A file put into a lent buffer.
+// What the programs share: a file put into a lent buffer, and a field printed.
 ghost use Rattle.io.specs.Counts.{Counts};
 
 // Whether the file could be read, and how many bytes of it stand at the start of the buffer.
@@ -41,4 +41,23 @@ pub fn load(name: &[u8], buffer: &mut [u8]) -> Loaded
     let loaded = load_open(file, buffer);
     libc::close(file);
     loaded
+}
+
+// Puts the file that an argument names into the buffer, and answers how many bytes there are; 0 where it can't be read.
+pub fn load_argument(argument: usize, buffer: &mut [u8]) -> usize
+    ensures { λ r. ⌜ Counts r (now (buffer .exit)) ⌝ }
+{
+    let mut name = [0u8; 64];
+    let length = os::arg(argument, &mut name);
+    let loaded = load(&name[..length], buffer);
+    if !loaded.read {
+        return 0;
+    }
+    loaded.count
+}
+
+// Prints a tab and a number.
+pub fn print_field(number: usize) {
+    io::write_all(libc::STDOUT_FILENO, b"\t");
+    io::print_decimal(libc::STDOUT_FILENO, number as u64);
 }
