@@ -1,8 +1,13 @@
 // Runs the cases that its arguments name, three words each: the case's name, its policy file and its evidence file. It prints the
 // name, which text the bad line is in, its start and its end, and the line that `check` prints.
 use files::load_argument;
-use files::print_field;
 use libc::STDOUT_FILENO;
+
+// Writes a tab and a number.
+fn field(number: usize) {
+    io::write_all(STDOUT_FILENO, b"\t");
+    io::print_decimal(STDOUT_FILENO, number as u64);
+}
 
 // Writes where the bad line stands.
 fn show_bad_line(policy: &[u8], evidence: &[u8]) {
@@ -12,8 +17,8 @@ fn show_bad_line(policy: &[u8], evidence: &[u8]) {
     } else {
         io::write_all(STDOUT_FILENO, b"\tpolicy");
     }
-    print_field(place.from);
-    print_field(place.to);
+    field(place.from);
+    field(place.to);
 }
 
 // Writes what `check` prints.

@@ -1,4 +1,4 @@
-// What the programs share: a file put into a lent buffer, and a field printed.
+// A file put into a lent buffer.
 ghost use Rattle.io.specs.Counts.{Counts};
 
 // Whether the file could be read, and how many bytes of it stand at the start of the buffer.
@@ -54,10 +54,4 @@ pub fn load_argument(argument: usize, buffer: &mut [u8]) -> usize
         return 0;
     }
     loaded.count
-}
-
-// Prints a tab and a number.
-pub fn print_field(number: usize) {
-    io::write_all(libc::STDOUT_FILENO, b"\t");
-    io::print_decimal(libc::STDOUT_FILENO, number as u64);
 }

@@ -4,7 +4,6 @@
 ghost use Prim.Native.Nat.{_≤_, _<_};
 ghost use Rattle.io.specs.Counts.{Counts};
 use files::load_argument;
-use files::print_field;
 use judging::Part;
 use libc::STDOUT_FILENO;
 use merging::MergeAnswer;
@@ -61,9 +60,15 @@ fn kept(out: &[u8], from: usize) -> usize {
     count
 }
 
+// Writes a tab and a number.
+fn field(number: usize) {
+    io::write_all(STDOUT_FILENO, b"\t");
+    io::print_decimal(STDOUT_FILENO, number as u64);
+}
+
 // Writes what the buffer holds: how many bytes behind the text are still the filling, and on the next lines the text.
 fn show_buffer(out: &[u8], length: usize) {
-    print_field(kept(out, length));
+    field(kept(out, length));
     io::write_all(STDOUT_FILENO, b"\n");
     let end = within(length, out);
     io::write_all(STDOUT_FILENO, &out[..end]);
@@ -72,17 +77,17 @@ fn show_buffer(out: &[u8], length: usize) {
 // Writes the first failure: which of the four judgings, the part and the number.
 fn show_unproved(which: usize, part: Part, number: usize) {
     io::write_all(STDOUT_FILENO, b"\tUNPROVED");
-    print_field(which);
-    print_field(judging::part_number(part) as usize);
-    print_field(number);
+    field(which);
+    field(judging::part_number(part) as usize);
+    field(number);
 }
 
 // Writes a refusal: which text, the number and the line.
 fn show_refused(text: usize, number: u64, line: usize) {
     io::write_all(STDOUT_FILENO, b"\tREFUSED");
-    print_field(text);
-    print_field(number as usize);
-    print_field(line);
+    field(text);
+    field(number as usize);
+    field(line);
 }
 
 // Writes the answer of merge, and what the buffer holds.
@@ -90,12 +95,12 @@ fn show_merge(policy_1: &[u8], typing_1: &[u8], policy_2: &[u8], typing_2: &[u8]
     match arbac::merge(policy_1, typing_1, policy_2, typing_2, out) {
         MergeAnswer::Merged(roles, assigns, revokes, goals, pinned, length) => {
             io::write_all(STDOUT_FILENO, b"\tOK");
-            print_field(roles);
-            print_field(assigns);
-            print_field(revokes);
-            print_field(goals);
-            print_field(pinned);
-            print_field(length);
+            field(roles);
+            field(assigns);
+            field(revokes);
+            field(goals);
+            field(pinned);
+            field(length);
             show_buffer(out, length);
         }
         MergeAnswer::Unproved(which, part, number) => {
@@ -114,8 +119,8 @@ fn show_sum(policy: &[u8], first: &[u8], second: &[u8], out: &mut [u8]) {
     match arbac::sum(policy, first, second, out) {
         SumAnswer::Summed(pinned, length) => {
             io::write_all(STDOUT_FILENO, b"\tOK");
-            print_field(pinned);
-            print_field(length);
+            field(pinned);
+            field(length);
             show_buffer(out, length);
         }
         SumAnswer::Refused(text, number, line) => {
@@ -179,7 +184,7 @@ fn run(last: usize)
     io::write_all(STDOUT_FILENO, &kind[..kind_length]);
     io::write_all(STDOUT_FILENO, b"\t");
     io::write_all(STDOUT_FILENO, &name[..name_length]);
-    print_field(room);
+    field(room);
     if kind[0] == b'm' {
         run_merge(last, &mut buffer[..room]);
     } else {
