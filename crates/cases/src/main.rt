@@ -24,7 +24,7 @@ fn show_bad_line(policy: &[u8], evidence: &[u8]) {
 // Writes what `check` prints.
 fn show_line(policy: &[u8], evidence: &[u8]) {
     let mut line = [0u8; 128];
-    let length = arbac::line::check_line(policy, evidence, &mut line);
+    let length = arbac::check_line(policy, evidence, &mut line);
     io::write_all(STDOUT_FILENO, b"\t");
     io::write_all(STDOUT_FILENO, &line[..length]);
 }

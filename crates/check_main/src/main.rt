@@ -4,7 +4,7 @@ use libc::STDOUT_FILENO;
 // Writes the line that the library makes of two texts.
 fn show(policy: &[u8], evidence: &[u8]) {
     let mut line = [0u8; 128];
-    let length = arbac::line::check_line(policy, evidence, &mut line);
+    let length = arbac::check_line(policy, evidence, &mut line);
     io::write_all(STDOUT_FILENO, &line[..length]);
 }
 

@@ -23,9 +23,9 @@ use Rattle.merging.specs.Sums.{sumOf}
 use Rattle.merging.specs.SumLaws.{sumTyped}
 use Rattle.merging.specs.Outcome.{answerIn, bufferAfter}
 use Rattle.merging.specs.Merge.{mergeOutcome}
-use Rattle.arbac.specs.declared.Answer.{Answer}
-use Rattle.arbac.specs.Answers.{answerOf}
-use Rattle.arbac.specs.Exact.{safe-values}
+use Rattle.answering.specs.declared.Answer.{Answer}
+use Rattle.answering.specs.Answers.{answerOf}
+use Rattle.answering.specs.Exact.{safe-values}
 use Rattle.composing.specs.SumRules.{sumText}
 use Rattle.composing.specs.MergeRules.{isMerged, merged, MergeTexts, merge-so}
 use Rattle.composing.specs.MergeExact.{merge-success}

@@ -1,0 +1,5 @@
+-- What is answered to two texts, and what the answers mean.
+pub mod Answers
+pub mod Laws
+pub mod Exact
+pub mod Worked

@@ -1,0 +1,126 @@
+-- Document 01's worked cases from their raw texts: P1 to P10, P12 with its two typings, each alone and merged, and P13.
+use Prim.Native.Nat.{ℕ}
+use mathlib.Core.List.{List, [], _∷_, _++_, map}
+use mathlib.Core.Path.{_≡_, refl}
+use lib.Count.{ones}
+use Rattle.roles.specs.Sets.{bit, emptySet, hasRole, singleOf, unionOf, meetOf, withOf, lessOf, withoutOf, sameSet, sharesRole, includes, sizeOf}
+use Rattle.closing.specs.Rounds.{addIf, roleStep, stepsBelow, roundOf, samePair, roundsOf, closeOf}
+use Rattle.rules.specs.Below.{everyBelow, someBelow}
+use Rattle.rules.specs.Tests.{implies, typeOf, inconsistentRole, roleSuits, personPasses, holdsHigh, unopposedTarget, unneededTarget, targetSuits, assignPasses, revokePasses, goalPasses}
+use Rattle.model.specs.Meaning.{meaning}
+use Rattle.bytes.specs.Bytes.{indexOf}
+use Rattle.model.specs.Policy.{revoked}
+use Rattle.text.specs.Forms.{bytes, isNumber, decimal, numberOf}
+use Rattle.text.specs.Names.{sameName}
+use Rattle.reading.specs.Policy.{policyOf, padded}
+use Rattle.reading.specs.Worked.{reading}
+use Rattle.evidence.specs.Turns.{turnOf}
+use Rattle.evidence.specs.TypingLines as typing
+use Rattle.evidence.specs.TypingText as typings
+use Rattle.evidence.specs.TraceLines as trace
+use Rattle.evidence.specs.TraceText as traces
+use Rattle.evidence.specs.Place.{isTyping}
+use Rattle.steps.specs.First.{first, firstFrom}
+use Rattle.steps.specs.Tests.{mayAssign, mayRevoke, withTarget, withoutTarget, lowestGoal, ownGoal, badPerson, goalOf, firstBad}
+use Rattle.steps.specs.Traces.{assignAt, revokeAt, possible, after, later, runOf}
+use Rattle.judging.specs.Verdict.{firstFrom as firstFailure, firstFailing, subjectOf, firstHolding, firstAssign, firstRevoke, firstGoal, failingPart, andThen, judgedRules, judgedTyping, typingVerdict, rulesVerdict, pinnedBelow, pinnedNames}
+use Rattle.running.specs.Verdict.{lastVerdict, ranVerdict, readVerdict, traceVerdict}
+use Rattle.merging.specs.Directory.{sameLists, sameLabel, samePerson, sameDirectory}
+use Rattle.merging.specs.Outcome.{answerIn, whenRead}
+use Rattle.merging.specs.Merge.{whenSame, whenAccepted, mergeJudged, mergeOutcome}
+use Rattle.merging.specs.Merge as merge
+use Rattle.answering.specs.Answers.{judgedAnswer, typingAnswer, traceAnswer, evidenceAnswer, answerAfter, answerOf}
+use Rattle.answering.specs.Answers as answer
+
+-- opens every definition of judging
+unfoldable judging : Unit {0}
+unfolding bit emptySet hasRole singleOf unionOf meetOf withOf lessOf withoutOf sameSet sharesRole includes sizeOf ones meaning addIf roleStep stepsBelow roundOf samePair roundsOf closeOf everyBelow someBelow implies typeOf inconsistentRole roleSuits personPasses holdsHigh unopposedTarget unneededTarget targetSuits assignPasses revokePasses goalPasses firstFailure firstFailing policyOf subjectOf firstHolding firstAssign firstRevoke firstGoal failingPart andThen judgedRules judgedTyping typingVerdict pinnedBelow pinnedNames
+judging = tt
+
+-- What is asked: check of a policy text and a piece of evidence, or the merge of two policies with a typing each.
+pub data Case : Type 0 where
+  checks : (policy evidence : List ℕ) → Case
+  merges : (policy₁ typing₁ policy₂ typing₂ : List ℕ) → Case
+
+-- Document 01's number of the answer and its values; a merge is lent a buffer of 100 bytes.
+unfoldable pub told : Case → List ℕ
+told (checks policy evidence) = let a = answerOf policy evidence in answer.numberOf a ∷ answer.valuesOf a
+told (merges policy₁ typing₁ policy₂ typing₂) = let a = answerIn (mergeOutcome policy₁ typing₁ policy₂ typing₂ 100) in merge.numberOf a ∷ merge.valuesOf a
+
+-- the desk policy, the loose desk, and the loose desk with bob H
+abbrev desk : (clearance negative : List ℕ) → List ℕ
+desk clearance negative =
+    bytes "arbac\t1\nrole\tadm\nrole\tpay\nrole\tbuy\nuser\tann\tH\nuser\tbob\t" ++ clearance ++ bytes "\nhas\tann\tadm\nassign\tadm\t-\t" ++ negative
+    ++ bytes "\tpay\nassign\tadm\t-\tpay\tbuy\ngoal\tpay,buy\nend\n"
+
+abbrev strict : List ℕ
+strict = desk (bytes "L") (bytes "buy")
+
+abbrev loose : List ℕ
+loose = desk (bytes "L") (bytes "-")
+
+-- typing T1 with adm's minus set and pay's label
+abbrev t1 : (minus label : List ℕ) → List ℕ
+t1 minus label = bytes "typing\t1\nadm\tH\t-\t" ++ minus ++ bytes "\npay\t" ++ label ++ bytes "\t-\tbuy\nbuy\tL\t-\tpay\nend\n"
+
+-- the steps of P6 and of P7
+abbrev two-steps : (first second : List ℕ) → List ℕ
+two-steps first second = bytes "trace\t1\nassign\tann\t" ++ first ++ bytes "\tbob\nassign\tann\t" ++ second ++ bytes "\tbob\nend\n"
+
+-- the guard pair: its roles and people, the rules of A and of B
+abbrev guard : List ℕ → List ℕ
+guard rules = bytes "arbac\t1\nrole\tadm\nrole\tx\nrole\ty\nrole\tz\nuser\tann\tH\nuser\tbob\tL\nhas\tann\tadm\n" ++ rules ++ bytes "end\n"
+
+abbrev guard-assigns : List ℕ
+guard-assigns = bytes "assign\tadm\tz\t-\tx\nassign\tadm\t-\tz\ty\nassign\tadm\t-\ty\tz\n"
+
+-- typings of A and of B
+abbrev typing-a : List ℕ
+typing-a = bytes "typing\t1\nadm\tH\t-\t-\nx\tL\tz\t-\ny\tL\t-\tz\nz\tL\t-\ty\nend\n"
+
+abbrev typing-b : List ℕ
+typing-b = bytes "typing\t1\nadm\tH\t-\t-\nx\tL\t-\t-\ny\tL\t-\t-\nz\tL\t-\t-\nend\n"
+
+abbrev policy-a : List ℕ
+policy-a = guard (guard-assigns ++ bytes "goal\tx,y\n")
+
+abbrev policy-b : List ℕ
+policy-b = guard (bytes "revoke\tadm\tz\ngoal\tadm\n")
+
+-- each case, and below it its number and values: parts are numbered from 1, holdings first, and so are users
+pub worked-cases :
+    map told
+    ((checks strict (t1 (bytes "-") (bytes "L")))
+    ∷ (checks strict (bytes "typing\t1\nadm\tL\t-\t-\npay\tL\t-\t-\nbuy\tL\t-\t-\nend\n"))
+    ∷ (checks strict (t1 (bytes "-") (bytes "H")))
+    ∷ (checks strict (t1 (bytes "adm") (bytes "L")))
+    ∷ (checks loose (t1 (bytes "-") (bytes "L")))
+    ∷ (checks loose (two-steps (bytes "2") (bytes "1")))
+    ∷ (checks loose (two-steps (bytes "1") (bytes "2")))
+    ∷ (checks loose (two-steps (bytes "1") (bytes "1")))
+    ∷ (checks loose (bytes "trace\t1\nend\n"))
+    ∷ (checks (desk (bytes "H") (bytes "-")) (two-steps (bytes "2") (bytes "1")))
+    ∷ (checks policy-a typing-a)
+    ∷ (checks policy-b typing-b)
+    ∷ (merges policy-a typing-a policy-b typing-b)
+    ∷ (checks
+    (guard (guard-assigns ++ bytes "revoke\tadm\tz\ngoal\tx,y\ngoal\tadm\n"))
+    (bytes "trace\t1\nassign\tann\t3\tbob\nassign\tann\t1\tbob\nrevoke\tann\t1\tbob\nassign\tann\t2\tbob\nend\n"))
+    ∷ [])
+    ≡ ((0 ∷ 3 ∷ 2 ∷ 0 ∷ 1 ∷ 2 ∷ [])
+    ∷ (2 ∷ 4 ∷ 1 ∷ [])
+    ∷ (2 ∷ 2 ∷ 1 ∷ [])
+    ∷ (2 ∷ 1 ∷ 1 ∷ [])
+    ∷ (2 ∷ 2 ∷ 1 ∷ [])
+    ∷ (1 ∷ 2 ∷ 2 ∷ 1 ∷ [])
+    ∷ (3 ∷ 2 ∷ [])
+    ∷ (3 ∷ 2 ∷ [])
+    ∷ (4 ∷ 0 ∷ [])
+    ∷ (4 ∷ 2 ∷ [])
+    ∷ (0 ∷ 4 ∷ 3 ∷ 0 ∷ 1 ∷ 3 ∷ [])
+    ∷ (0 ∷ 4 ∷ 0 ∷ 1 ∷ 1 ∷ 0 ∷ [])
+    ∷ (2 ∷ 3 ∷ 3 ∷ 1 ∷ [])
+    ∷ (1 ∷ 4 ∷ 2 ∷ 1 ∷ [])
+    ∷ [])
+unfolding reading judging padded indexOf revoked isNumber decimal first firstFrom numberOf turnOf typing.oneField typing.twoFields typing.lineOf typing.wellFormed typing.named typing.entry typing.answerTo typing.judged typing.typingLine typings.untyped typings.added typings.answered typings.judgeLine typings.readTyping typings.tableOf trace.fourFields trace.oneField trace.twoFields trace.lineOf trace.isStep trace.stepNamed trace.wellFormed trace.named trace.entry trace.answerTo trace.judged trace.traceLine traces.untraced traces.added traces.answered traces.judgeLine traces.readTrace isTyping mayAssign mayRevoke withTarget withoutTarget lowestGoal ownGoal badPerson goalOf firstBad assignAt revokeAt possible after later runOf lastVerdict ranVerdict readVerdict traceVerdict judgedAnswer typingAnswer traceAnswer evidenceAnswer answerAfter answerOf rulesVerdict sameName sameLists sameLabel samePerson sameDirectory whenRead answerIn whenSame whenAccepted mergeJudged mergeOutcome told
+worked-cases = refl

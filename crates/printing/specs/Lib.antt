@@ -1,0 +1,4 @@
+-- The line that `check` prints.
+pub mod Line
+pub mod LineSteps
+pub mod LineTold

@@ -1,0 +1,55 @@
+-- The line that `check` prints for an answer, its fields parted by tabs.
+use Prim.Native.Nat.{ℕ}
+use mathlib.Core.Bool.{cond}
+use mathlib.Core.List.{List, [], _++_}
+use lib.Dec.{leb}
+use lib.ListN.{length, getD}
+use Rattle.text.specs.declared.Name.{Name}
+use Rattle.text.specs.Forms.{bytes}
+use Rattle.text.specs.Names.{packed}
+use Rattle.reading.specs.Texts.{Reading, read, refused}
+use Rattle.reading.specs.Policy.{Said, readPolicy}
+use Rattle.judging.specs.declared.Part.{Part}
+use Rattle.writing.specs.Written.{put, spelled, decimal}
+use Rattle.answering.specs.declared.Answer.{Answer}
+use Rattle.answering.specs.Answers.{answerOf}
+
+-- a field after its tab
+unfoldable pub field : List ℕ → List ℕ
+field text = bytes "\t" ++ text
+
+unfoldable pub partText : Part → List ℕ
+partText Part.Holdings = bytes "holdings"
+partText Part.Assign = bytes "assign"
+partText Part.Revoke = bytes "revoke"
+partText Part.Goal = bytes "goal"
+
+-- the name of the user at a place of the policy
+unfoldable pub nameAt : List Name → ℕ → Name
+nameAt users user = getD users user (packed [])
+
+-- The line of an answer over the policy's users, with its LF.
+unfoldable pub lineOf : List Name → Answer → List ℕ
+lineOf users (Answer.Safe roles assigns revokes goals pinned) =
+    bytes "SAFE" ++ field (decimal roles) ++ field (decimal assigns) ++ field (decimal revokes) ++ field (decimal goals) ++ field (decimal pinned) ++ bytes "\n"
+lineOf users (Answer.Attacked steps user goal) = bytes "ATTACKED" ++ field (decimal steps) ++ field (spelled (nameAt users user)) ++ field (decimal goal) ++ bytes "\n"
+lineOf users (Answer.Unproved part number) = bytes "UNPROVED" ++ field (partText part) ++ field (decimal number) ++ bytes "\n"
+lineOf users (Answer.Broken step) = bytes "BROKEN" ++ field (decimal step) ++ bytes "\n"
+lineOf users (Answer.Short steps) = bytes "SHORT" ++ field (decimal steps) ++ bytes "\n"
+lineOf users (Answer.Refused number line) = bytes "REFUSED" ++ field (decimal number) ++ field (decimal line) ++ bytes "\n"
+
+-- the users of a policy text; none where it is refused
+unfoldable pub usersIn : Reading Said → List Name
+usersIn (read s) = s .users
+usersIn (refused number line) = []
+
+-- The line that `check` prints for two texts.
+unfoldable pub checkLine : (policy evidence : List ℕ) → List ℕ
+checkLine policy evidence = lineOf (usersIn (readPolicy policy)) (answerOf policy evidence)
+
+-- A line shown in a lent buffer: its length and the line at the buffer's start, or 0 and the buffer as it was where it is too short.
+unfoldable pub shownLength : (line buffer : List ℕ) → ℕ
+shownLength line buffer = cond (leb (length line) (length buffer)) (length line) 0
+
+unfoldable pub shown : (line buffer : List ℕ) → List ℕ
+shown line buffer = cond (leb (length line) (length buffer)) (put line buffer) buffer
