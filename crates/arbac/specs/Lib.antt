@@ -1,0 +1,4 @@
+-- What the functions for C callers tell, in numbers.
+pub mod Face
+pub mod FaceLaws
+pub mod FaceExact
