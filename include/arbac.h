@@ -67,7 +67,9 @@ size_t arbac_check_line(const uint8_t *policy, size_t policy_length,
 
      told   0 policy or 1 evidence, where the line begins, its length without LF    3
             0, 0, 0, where `end` is missing and for every other answer              3
-            nothing, where place_length is below 3                                  0  */
+            nothing, where place_length is below 3                                  0
+
+   A blank first line of the policy is told as 0, 0, 0 too; arbac_check has its number. */
 size_t arbac_bad_line(const uint8_t *policy, size_t policy_length,
                       const uint8_t *evidence, size_t evidence_length,
                       uint64_t *place, size_t place_length);
