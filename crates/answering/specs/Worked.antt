@@ -4,9 +4,9 @@ use mathlib.Core.List.{List, [], _∷_, _++_, map}
 use mathlib.Core.Path.{_≡_, refl}
 use lib.Count.{ones}
 use Rattle.roles.specs.Sets.{bit, emptySet, hasRole, singleOf, unionOf, meetOf, withOf, lessOf, withoutOf, sameSet, sharesRole, includes, sizeOf}
-use Rattle.closing.specs.Rounds.{addIf, roleStep, stepsBelow, roundOf, samePair, roundsOf, closeOf}
-use Rattle.rules.specs.Below.{everyBelow, someBelow}
-use Rattle.rules.specs.Tests.{implies, typeOf, inconsistentRole, roleSuits, personPasses, holdsHigh, unopposedTarget, unneededTarget, targetSuits, assignPasses, revokePasses, goalPasses}
+use Rattle.sheets.specs.Turned.{addIf, addOwn, rolesBelow, setsBelow, setsOf, turnedOf}
+use Rattle.closing.specs.Rounds.{linksOf, roundOf, samePair, roundsOf, closeOf}
+use Rattle.rules.specs.Tests.{implies, inconsistentRole, personPasses, holdsHigh, unopposedTarget, unneededTarget, targetSuits, assignPasses, revokePasses, goalPasses}
 use Rattle.model.specs.Meaning.{meaning}
 use Rattle.bytes.specs.Bytes.{indexOf}
 use Rattle.model.specs.Policy.{revoked}
@@ -23,7 +23,7 @@ use Rattle.evidence.specs.Place.{isTyping}
 use Rattle.steps.specs.First.{first, firstFrom}
 use Rattle.steps.specs.Tests.{mayAssign, mayRevoke, withTarget, withoutTarget, lowestGoal, ownGoal, badPerson, goalOf, firstBad}
 use Rattle.steps.specs.Traces.{assignAt, revokeAt, possible, after, later, runOf}
-use Rattle.judging.specs.Verdict.{firstFrom as firstFailure, firstFailing, subjectOf, firstHolding, firstAssign, firstRevoke, firstGoal, failingPart, andThen, judgedRules, judgedTyping, typingVerdict, rulesVerdict, pinnedBelow, pinnedNames}
+use Rattle.judging.specs.Verdict.{firstFrom as firstFailure, firstFailing, subjectOf, firstHolding, firstAssign, firstRevoke, firstGoal, failingPart, andThen, rulesSaid, allSaid, judgedRules, judgedTyping, typingVerdict, rulesVerdict, pinnedBelow, pinnedNames}
 use Rattle.running.specs.Verdict.{lastVerdict, ranVerdict, readVerdict, traceVerdict}
 use Rattle.merging.specs.Directory.{sameLists, sameLabel, samePerson, sameDirectory}
 use Rattle.merging.specs.Outcome.{answerIn, whenRead}
@@ -34,7 +34,7 @@ use Rattle.answering.specs.Answers as answer
 
 -- opens every definition of judging
 unfoldable judging : Unit {0}
-unfolding bit emptySet hasRole singleOf unionOf meetOf withOf lessOf withoutOf sameSet sharesRole includes sizeOf ones meaning addIf roleStep stepsBelow roundOf samePair roundsOf closeOf everyBelow someBelow implies typeOf inconsistentRole roleSuits personPasses holdsHigh unopposedTarget unneededTarget targetSuits assignPasses revokePasses goalPasses firstFailure firstFailing policyOf subjectOf firstHolding firstAssign firstRevoke firstGoal failingPart andThen judgedRules judgedTyping typingVerdict pinnedBelow pinnedNames
+unfolding bit emptySet hasRole singleOf unionOf meetOf withOf lessOf withoutOf sameSet sharesRole includes sizeOf ones meaning addIf addOwn rolesBelow setsBelow setsOf turnedOf linksOf roundOf samePair roundsOf closeOf implies inconsistentRole personPasses holdsHigh unopposedTarget unneededTarget targetSuits assignPasses revokePasses goalPasses firstFailure firstFailing policyOf subjectOf firstHolding firstAssign firstRevoke firstGoal failingPart andThen rulesSaid allSaid judgedRules judgedTyping typingVerdict pinnedBelow pinnedNames
 judging = tt
 
 -- What is asked: check of a policy text and a piece of evidence, or the merge of two policies with a typing each.

@@ -1,18 +1,22 @@
 -- One round: it goes no further than the clauses, it keeps the pair, and it takes in what each clause asks of the pair as it stood.
-use Prim.Native.Nat.{ℕ, zero, suc, _≤_, _<_}
+use Prim.Native.Nat.{ℕ, _≤_, _<_, min}
 use mathlib.Core.Bool.{true}
-use mathlib.Core.Logic.{_⊎_, inl, inr, ⊎-elim}
-use mathlib.Core.Path.{_≡_}
+use mathlib.Core.Logic.{_↔_, ⊎-elim}
+use mathlib.Core.Path.{_≡_, refl}
+use borrow.Author.Tests.{lt-ltb, le-ltb}
 use native.Mathlib.Decide.{decLt}
 use native.Mathlib.Omega.{arith}
 use Rattle.roles.specs.declared.RoleSet.{RoleSet}
-use Rattle.roles.specs.Sets.{hasRole, singleOf, sharesRole}
-use Rattle.roles.specs.Members.{_∈_, Within, Sized, single-own, single-only, shares-share, share-shares}
+use Rattle.roles.specs.Sets.{emptySet, hasRole}
+use Rattle.roles.specs.Members.{_∈_, Within, Sized, empty-none, union-cases, union-left, union-right}
+use Rattle.model.specs.declared.Typing.{Typing as Table}
 use Rattle.model.specs.Typing.{Typing}
+use Rattle.model.specs.Meaning.{meaning}
 use Rattle.model.specs.Closure.{Closed}
+use Rattle.sheets.specs.Turned.{setsOf, turnedOf}
+use Rattle.sheets.specs.Members.{Brings, below-exact, sets-exact, union-sized, below-sized, sets-sized}
 use Rattle.closing.specs.declared.Pair.{Pair}
-use Rattle.closing.specs.Rounds.{roleStep, stepsBelow}
-use Rattle.closing.specs.Adding.{add-cases, add-old, add-new, single-sized, add-sized}
+use Rattle.closing.specs.Rounds.{linksOf, linksFor, roundOf}
 
 -- every held role of the pair is one of the first kind, every absent role one of the second
 pub record Inside (P Q : ℕ → Type 0) (pair : Pair) : Type 0 where
@@ -34,91 +38,130 @@ pub record SizedTyping (Γ : Typing) : Type 0 where
   pub plus : (role : ℕ) → Sized (Γ .plus role)
   pub minus : (role : ℕ) → Sized (Γ .minus role)
 
--- the second pair has what each clause asks of the roles below a number, read off the first
-pub record Applied (Γ : Typing) (stood : Pair) (count : ℕ) (new : Pair) : Type 0 where
-  pub a : {role other : ℕ} → role < count → role ∈ stood .held → other ∈ Γ .plus role → other ∈ new .held
-  pub b : {role other : ℕ} → role < count → role ∈ stood .held → other ∈ Γ .minus role → other ∈ new .absent
-  pub c : {role other : ℕ} → role < count → other ∈ Γ .plus role → other ∈ stood .absent → role ∈ new .absent
+-- A typing over at most 128 roles, laid out with empty sets past them, in words of 64 bits.
+pub record Fits (t : Table) (roles : ℕ) : Type 0 where
+  pub limit : roles ≤ 128
+  pub sized : SizedTyping (meaning t)
+  pub plus-past : (role : ℕ) → roles ≤ role → meaning t .plus role ≡ emptySet
+  pub minus-past : (role : ℕ) → roles ≤ role → meaning t .minus role ≡ emptySet
 
--- a number below the next one is below this one, or it is this one
-last-or : {k n : ℕ} → k < suc n → (k < n) ⊎ (k ≡ n)
-last-or {k} {n} h = go (decLt k n)
-  where
-    go : Dec (k < n) → (k < n) ⊎ (k ≡ n)
-    go (yes lt) = inl lt
-    go (no ge) = inr (omega arith)
+-- The second pair has what each clause asks of the first.
+pub record Applied (Γ : Typing) (stood new : Pair) : Type 0 where
+  pub a : {role other : ℕ} → role ∈ stood .held → other ∈ Γ .plus role → other ∈ new .held
+  pub b : {role other : ℕ} → role ∈ stood .held → other ∈ Γ .minus role → other ∈ new .absent
+  pub c : {role other : ℕ} → other ∈ Γ .plus role → other ∈ stood .absent → role ∈ new .absent
 
--- ---- a round goes no further than the clauses
+-- ---- what a typing says of each role
 
-module _ {Γ : Typing} {s t : RoleSet} {held absent : ℕ → Type 0} (closed : Closed Γ s t held absent) (sized : SizedTyping Γ) {stood : Pair} (inside : Inside held absent stood) where
-  role-inside : (role : ℕ) {new : Pair} → Inside held absent new → Inside held absent (roleStep Γ stood role new)
-  unfolding roleStep
-  role-inside role {new} old = record {
-    held = λ h.
-        ⊎-elim (old .held) (λ (test, m). closed .a (inside .held (record { found = test })) m)
-        (add-cases (hasRole (stood .held) role) (Γ .plus role) (new .held) h);
-    absent = λ h.
-        ⊎-elim (λ h′. ⊎-elim (old .absent) (λ (test, m). closed .b (inside .held (record { found = test })) m)
-        (add-cases (hasRole (stood .held) role) (Γ .minus role) (new .absent) h′)) (λ (test, m). barred test m)
-        (add-cases (sharesRole (Γ .plus role) (stood .absent)) (singleOf role) _ h);
+module _ (t : Table) (roles : ℕ) where
+  pub needed-sized : (role : ℕ) → Sized (turnedOf t roles .needed role)
+  unfolding turnedOf
+  needed-sized role = below-sized (min roles 128) (λ other. hasRole (meaning t .plus other) role)
+
+  pub opposed-sized : (role : ℕ) → Sized (turnedOf t roles .opposed role)
+  unfolding turnedOf
+  opposed-sized role = below-sized (min roles 128) (λ other. hasRole (meaning t .minus other) role)
+
+  pub high-sized : Sized (turnedOf t roles .high)
+  unfolding turnedOf
+  high-sized = below-sized (min roles 128) (meaning t .label)
+
+module _ {t : Table} {roles : ℕ} (fits : Fits t roles) where
+  -- a role whose set has a member is among the first roles
+  filled-below : {role other : ℕ} (s : RoleSet) → (roles ≤ role → s ≡ emptySet) → other ∈ s → role < min roles 128
+  filled-below {role} {other} s past m = go (decLt role roles)
+    where
+      go : Dec (role < roles) → role < min roles 128
+      go (yes lt) = omega (arith, fits .limit)
+      go (no ge) = absurd (empty-none (rw (past (omega arith)) at m))
+
+  pub plus-below : {role other : ℕ} → other ∈ meaning t .plus role → role < min roles 128
+  plus-below {role} m = filled-below (meaning t .plus role) (fits .plus-past role) m
+
+  pub minus-below : {role other : ℕ} → other ∈ meaning t .minus role → role < min roles 128
+  minus-below {role} m = filled-below (meaning t .minus role) (fits .minus-past role) m
+
+  -- its own sets
+  pub own-plus : (role : ℕ) → turnedOf t roles .plus role ≡ meaning t .plus role
+  unfolding turnedOf
+  own-plus role = go (decLt role (min roles 128))
+    where
+      go : Dec (role < min roles 128) → turnedOf t roles .plus role ≡ meaning t .plus role
+      go (yes lt) = rw (lt-ltb role (min roles 128) lt)
+      go (no ge) = rw (le-ltb role (min roles 128) (omega arith), fits .plus-past role (omega (arith, fits .limit)))
+
+  pub own-minus : (role : ℕ) → turnedOf t roles .minus role ≡ meaning t .minus role
+  unfolding turnedOf
+  own-minus role = go (decLt role (min roles 128))
+    where
+      go : Dec (role < min roles 128) → turnedOf t roles .minus role ≡ meaning t .minus role
+      go (yes lt) = rw (lt-ltb role (min roles 128) lt)
+      go (no ge) = rw (le-ltb role (min roles 128) (omega arith), fits .minus-past role (omega (arith, fits .limit)))
+
+  -- those that have it in their plus set
+  pub needed-exact : (other role : ℕ) → role ∈ turnedOf t roles .needed other ↔ (other ∈ meaning t .plus role)
+  unfolding turnedOf
+  needed-exact other role =
+      let below = below-exact (min roles 128) (omega arith) (λ r. hasRole (meaning t .plus r) other) role in
+      (λ m. record { found = below .0 m .1 }, λ m. below .1 (plus-below m, m .found))
+
+  -- those that have it in their minus set
+  pub opposed-exact : (other role : ℕ) → role ∈ turnedOf t roles .opposed other ↔ (other ∈ meaning t .minus role)
+  unfolding turnedOf
+  opposed-exact other role =
+      let below = below-exact (min roles 128) (omega arith) (λ r. hasRole (meaning t .minus r) other) role in
+      (λ m. record { found = below .0 m .1 }, λ m. below .1 (minus-below m, m .found))
+
+  -- ---- a round
+
+  -- goes no further than the clauses
+  pub round-sound : {s u : RoleSet} {P Q : ℕ → Type 0} → Closed (meaning t) s u P Q → {p : Pair} → Inside P Q p → Inside P Q (roundOf (linksFor t roles) p)
+  unfolding roundOf linksFor linksOf
+  round-sound {s} {u} {P} {Q} closed {p} old = record {
+    held = λ {role} h.
+        ⊎-elim (old .held) (λ m. let from = sets-exact (turnedOf t roles .plus) (p .held) role .0 m in closed .a (old .held (from .is-member)) (rw (own-plus (from .member)) at (from .brings)))
+        (union-cases (p .held) (setsOf (turnedOf t roles .plus) (p .held)) h);
+    absent = λ {role} h.
+        ⊎-elim (λ h′. ⊎-elim (old .absent) (barred role) (union-cases (p .absent) (setsOf (turnedOf t roles .minus) (p .held)) h′)) (missing role)
+        (union-cases _ (setsOf (turnedOf t roles .needed) (p .absent)) h);
   }
     where
+      -- by clause (b)
+      barred : (role : ℕ) → role ∈ setsOf (turnedOf t roles .minus) (p .held) → Q role
+      barred role m =
+          let from = sets-exact (turnedOf t roles .minus) (p .held) role .0 m in
+          closed .b (old .held (from .is-member)) (rw (own-minus (from .member)) at (from .brings))
+
       -- by clause (c)
-      barred : {other : ℕ} → sharesRole (Γ .plus role) (stood .absent) ≡ true → other ∈ singleOf role → absent other
-      barred test m =
-          let shared = shares-share (sized .plus role) test in
-          rw (single-only m) (closed .c (shared .first) (inside .absent (shared .second)))
+      missing : (role : ℕ) → role ∈ setsOf (turnedOf t roles .needed) (p .absent) → Q role
+      missing role m =
+          let from = sets-exact (turnedOf t roles .needed) (p .absent) role .0 m in
+          closed .c (needed-exact (from .member) role .0 (from .brings)) (old .absent (from .is-member))
 
-  pub steps-inside : (count : ℕ) → Inside held absent (stepsBelow Γ stood count)
-  unfolding stepsBelow
-  steps-inside zero = inside
-  steps-inside (suc count) = role-inside count (steps-inside count)
-
--- ---- a round keeps the pair
-
-module _ (Γ : Typing) (stood : Pair) where
-  role-contains : (role : ℕ) {p new : Pair} → Contains p new → Contains p (roleStep Γ stood role new)
-  unfolding roleStep
-  role-contains role old = record {
-    held = record { every = λ h. add-old _ _ (old .held .every h) };
-    absent = record { every = λ h. add-old _ _ (add-old _ _ (old .absent .every h)) };
+  -- takes in what each clause asks
+  pub round-applied : (p : Pair) → Applied (meaning t) p (roundOf (linksFor t roles) p)
+  unfolding roundOf linksFor linksOf
+  round-applied p = record {
+    a = λ {role} {other} h m. union-right (p .held) (sets-exact (turnedOf t roles .plus) (p .held) other .1 (record { member = role; is-member = h; brings = rw (own-plus role) m }));
+    b = λ {role} {other} h m.
+        union-left (setsOf (turnedOf t roles .needed) (p .absent))
+        (union-right (p .absent) (sets-exact (turnedOf t roles .minus) (p .held) other .1 (record { member = role; is-member = h; brings = rw (own-minus role) m })));
+    c = λ {role} {other} m h.
+        union-right _ (sets-exact (turnedOf t roles .needed) (p .absent) role .1 (record { member = other; is-member = h; brings = needed-exact other role .1 m }));
   }
 
-  pub steps-contain : (count : ℕ) → Contains stood (stepsBelow Γ stood count)
-  unfolding stepsBelow
-  steps-contain zero = record { held = record { every = λ h. h }; absent = record { every = λ h. h } }
-  steps-contain (suc count) = role-contains count (steps-contain count)
-
-  -- ---- a round takes in what each clause asks
-
-  role-applied : (count : ℕ) → count < 128 → {new : Pair} → Applied Γ stood count new → Applied Γ stood (suc count) (roleStep Γ stood count new)
-  unfolding roleStep
-  role-applied count limit {new} old = record {
-    a = λ below h m. ⊎-elim (λ lt. add-old _ _ (old .a lt h m)) (λ e. add-new (new .held) (rw e at (h .found)) (rw e at m)) (last-or below);
-    b = λ below h m. add-old _ _ (⊎-elim (λ lt. add-old _ _ (old .b lt h m)) (λ e. add-new (new .absent) (rw e at (h .found)) (rw e at m)) (last-or below));
-    c = λ below m h. ⊎-elim (λ lt. add-old _ _ (add-old _ _ (old .c lt m h))) (λ e. rw e (barred (rw e at m) h)) (last-or below);
-  }
-    where
-      -- by clause (c)
-      barred : {other : ℕ} → other ∈ Γ .plus count → other ∈ stood .absent → count ∈ roleStep Γ stood count new .absent
-      barred {other} m h = add-new _ (share-shares (Γ .plus count) (stood .absent) (record { role = other; first = m; second = h })) (single-own limit)
-
-  pub steps-applied : (count : ℕ) → count ≤ 128 → Applied Γ stood count (stepsBelow Γ stood count)
-  unfolding stepsBelow
-  steps-applied zero limit = record { a = λ below. absurd (omega arith); b = λ below. absurd (omega arith); c = λ below. absurd (omega arith) }
-  steps-applied (suc count) limit = role-applied count (omega arith) (steps-applied count (omega arith))
-
--- ---- a round keeps words of 64 bits
-
-module _ {Γ : Typing} (sized : SizedTyping Γ) (stood : Pair) where
-  role-sized : (role : ℕ) {new : Pair} → SizedPair new → SizedPair (roleStep Γ stood role new)
-  unfolding roleStep
-  role-sized role old = record {
-    held = add-sized _ (sized .plus role) (old .held);
-    absent = add-sized _ (single-sized role) (add-sized _ (sized .minus role) (old .absent));
+  -- keeps words of 64 bits
+  pub round-sized : {p : Pair} → SizedPair p → SizedPair (roundOf (linksFor t roles) p)
+  unfolding roundOf linksFor linksOf
+  round-sized {p} old = record {
+    held = union-sized (old .held) (sets-sized (turnedOf t roles .plus) (λ role. rw (own-plus role) (fits .sized .plus role)) (p .held));
+    absent = union-sized (union-sized (old .absent) (sets-sized (turnedOf t roles .minus) (λ role. rw (own-minus role) (fits .sized .minus role)) (p .held))) (sets-sized (turnedOf t roles .needed) (needed-sized t roles) (p .absent));
   }
 
-  pub steps-sized : (count : ℕ) → SizedPair stood → SizedPair (stepsBelow Γ stood count)
-  unfolding stepsBelow
-  steps-sized zero old = old
-  steps-sized (suc count) old = role-sized count (steps-sized count old)
+-- keeps the pair
+pub round-contains : (t : Table) (roles : ℕ) (p : Pair) → Contains p (roundOf (linksFor t roles) p)
+unfolding roundOf linksFor linksOf
+round-contains t roles p = record {
+  held = record { every = λ h. union-left _ h };
+  absent = record { every = λ h. union-left _ (union-left _ h) };
+}

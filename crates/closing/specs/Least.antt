@@ -13,130 +13,91 @@ use Rattle.model.specs.Typing.{Held, Absent}
 use Rattle.model.specs.Meaning.{meaning}
 use Rattle.model.specs.Closure.{Closed, closure-closed, held-least, absent-least}
 use Rattle.closing.specs.declared.Pair.{Pair}
-use Rattle.closing.specs.Rounds.{roundOf, samePair, roundsOf, closeOf}
+use Rattle.closing.specs.Rounds.{linksFor, roundOf, samePair, roundsOf, closeOf}
 use Rattle.closing.specs.Steps.{rounds-stop, rounds-go-on}
-use Rattle.closing.specs.Clauses.{Inside, Contains, SizedPair, SizedTyping, Applied, steps-inside, steps-contain, steps-applied, steps-sized}
+use Rattle.closing.specs.Clauses.{Inside, Contains, SizedPair, Fits, Applied, round-contains, round-sized, round-sound, round-applied}
 use Rattle.closing.specs.Growth.{same-pair, other-pair, sizeTo, size-most, more-or-same}
 
--- A typing over at most 128 roles, laid out with empty sets past them, in words of 64 bits.
-pub record Fits (t : Table) (roles : ℕ) : Type 0 where
-  pub limit : roles ≤ 128
-  pub sized : SizedTyping (meaning t)
-  pub plus-past : (role : ℕ) → roles ≤ role → meaning t .plus role ≡ emptySet
-  pub minus-past : (role : ℕ) → roles ≤ role → meaning t .minus role ≡ emptySet
-
--- ---- what holds of every round
-
 module _ {t : Table} {roles : ℕ} (fits : Fits t roles) where
-  -- it has all that the pair has
-  pub round-contains : (p : Pair) → Contains p (roundOf t roles p)
-  unfolding roundOf
-  round-contains p = steps-contain (meaning t) p (min roles 128)
-
-  -- its words are words of 64 bits
-  pub round-sized : {p : Pair} → SizedPair p → SizedPair (roundOf t roles p)
-  unfolding roundOf
-  round-sized {p} old = steps-sized (fits .sized) p (min roles 128) old
-
-  -- it stays within every pair that obeys the clauses
-  pub round-sound : {s u : RoleSet} {P Q : ℕ → Type 0} → Closed (meaning t) s u P Q → {p : Pair} → Inside P Q p → Inside P Q (roundOf t roles p)
-  unfolding roundOf
-  round-sound closed old = steps-inside closed (fits .sized) old (min roles 128)
-
   -- what holds of a pair and stays true over a round holds after any number of rounds
-  rounds-keep : (G : Pair → Type 0) → ((p : Pair) → G p → G (roundOf t roles p)) → (most : ℕ) {p : Pair} → G p → G (roundsOf most t roles p)
+  rounds-keep : (G : Pair → Type 0) → ((p : Pair) → G p → G (roundOf (linksFor t roles) p)) → (most : ℕ) {p : Pair} → G p → G (roundsOf most (linksFor t roles) p)
   unfolding roundsOf
   rounds-keep G keep zero old = old
-  rounds-keep G keep (suc most) {p} old = go (samePair p (roundOf t roles p)) refl (rounds-keep G keep most (keep p old))
+  rounds-keep G keep (suc most) {p} old = go (samePair p (roundOf (linksFor t roles) p)) refl (rounds-keep G keep most (keep p old))
     where
-      go : (b : Bool) → samePair p (roundOf t roles p) ≡ b → G (roundsOf most t roles (roundOf t roles p)) → G (roundsOf (suc most) t roles p)
-      go true e rest = rw (rounds-stop most t roles p e) old
-      go false e rest = rw (rounds-go-on most t roles p e) rest
+      go : (b : Bool) → samePair p (roundOf (linksFor t roles) p) ≡ b → G (roundsOf most (linksFor t roles) (roundOf (linksFor t roles) p)) → G (roundsOf (suc most) (linksFor t roles) p)
+      go true e rest = rw (rounds-stop most (linksFor t roles) p e) old
+      go false e rest = rw (rounds-go-on most (linksFor t roles) p e) rest
 
   -- ---- the rounds come to rest
 
   -- a round changes nothing, or the pair has more roles after it
-  grows : (p : Pair) → SizedPair p → (p ≡ roundOf t roles p) ⊎ (sizeTo 128 p < sizeTo 128 (roundOf t roles p))
-  grows p sized = more-or-same 128 sized (round-sized sized) (round-contains p) (record { held = below; absent = below })
+  grows : (p : Pair) → SizedPair p → (p ≡ roundOf (linksFor t roles) p) ⊎ (sizeTo 128 p < sizeTo 128 (roundOf (linksFor t roles) p))
+  grows p sized = more-or-same 128 sized (round-sized fits sized) (round-contains t roles p) (record { held = below; absent = below })
 
   -- so many rounds that no role is left to add end in a pair at rest
-  rests : (most : ℕ) {p : Pair} → SizedPair p → 256 ≤ most + sizeTo 128 p → roundOf t roles (roundsOf most t roles p) ≡ roundsOf most t roles p
+  rests : (most : ℕ) {p : Pair} → SizedPair p → 256 ≤ most + sizeTo 128 p → roundOf (linksFor t roles) (roundsOf most (linksFor t roles) p) ≡ roundsOf most (linksFor t roles) p
   unfolding roundsOf
   rests zero {p} sized full =
-      ⊎-elim sym (λ less. absurd (omega (arith, size-most 128 (roundOf t roles p)))) (grows p sized)
-  rests (suc most) {p} sized full = go (samePair p (roundOf t roles p)) refl (rests most (round-sized sized))
+      ⊎-elim sym (λ less. absurd (omega (arith, size-most 128 (roundOf (linksFor t roles) p)))) (grows p sized)
+  rests (suc most) {p} sized full = go (samePair p (roundOf (linksFor t roles) p)) refl (rests most (round-sized fits sized))
     where
-      go : (b : Bool) → samePair p (roundOf t roles p) ≡ b
-          → (256 ≤ most + sizeTo 128 (roundOf t roles p) → roundOf t roles (roundsOf most t roles (roundOf t roles p)) ≡ roundsOf most t roles (roundOf t roles p))
-          → roundOf t roles (roundsOf (suc most) t roles p) ≡ roundsOf (suc most) t roles p
-      go true e rest = rw (rounds-stop most t roles p e) (sym (same-pair p (roundOf t roles p) e))
-      go false e rest = rw (rounds-go-on most t roles p e) (rest (⊎-elim (λ same. absurd (other-pair p (roundOf t roles p) e same)) (λ less. omega arith) (grows p sized)))
+      go : (b : Bool) → samePair p (roundOf (linksFor t roles) p) ≡ b
+          → (256 ≤ most + sizeTo 128 (roundOf (linksFor t roles) p) → roundOf (linksFor t roles) (roundsOf most (linksFor t roles) (roundOf (linksFor t roles) p)) ≡ roundsOf most (linksFor t roles) (roundOf (linksFor t roles) p))
+          → roundOf (linksFor t roles) (roundsOf (suc most) (linksFor t roles) p) ≡ roundsOf (suc most) (linksFor t roles) p
+      go true e rest = rw (rounds-stop most (linksFor t roles) p e) (sym (same-pair p (roundOf (linksFor t roles) p) e))
+      go false e rest = rw (rounds-go-on most (linksFor t roles) p e) (rest (⊎-elim (λ same. absurd (other-pair p (roundOf (linksFor t roles) p) e same)) (λ less. omega arith) (grows p sized)))
 
   -- another round changes nothing in the closure
-  pub close-rests : {p : Pair} → SizedPair p → roundOf t roles (closeOf t roles p) ≡ closeOf t roles p
+  pub close-rests : {p : Pair} → SizedPair p → roundOf (linksFor t roles) (closeOf (linksFor t roles) p) ≡ closeOf (linksFor t roles) p
   unfolding closeOf
   close-rests sized = rests 256 sized (omega arith)
 
   -- ---- a pair at rest is closed
 
-  -- a role whose set has a member is one that a round goes through
-  filled-below : {role other : ℕ} (s : RoleSet) → (roles ≤ role → s ≡ emptySet) → other ∈ s → role < min roles 128
-  filled-below {role} {other} s past m = go (decLt role roles)
-    where
-      go : Dec (role < roles) → role < min roles 128
-      go (yes lt) = omega (arith, fits .limit)
-      go (no ge) = absurd (empty-none (rw (past (omega arith)) at m))
-
-  pub plus-below : {role other : ℕ} → other ∈ meaning t .plus role → role < min roles 128
-  plus-below {role} m = filled-below (meaning t .plus role) (fits .plus-past role) m
-
-  pub minus-below : {role other : ℕ} → other ∈ meaning t .minus role → role < min roles 128
-  minus-below {role} m = filled-below (meaning t .minus role) (fits .minus-past role) m
-
   -- a pair that a round leaves as it is obeys the clauses
-  pub rest-closed : (p q : Pair) → Contains p q → roundOf t roles q ≡ q → Closed (meaning t) (p .held) (p .absent) (λ role. role ∈ q .held) (λ role. role ∈ q .absent)
-  unfolding roundOf
+  pub rest-closed : (p q : Pair) → Contains p q → roundOf (linksFor t roles) q ≡ q → Closed (meaning t) (p .held) (p .absent) (λ role. role ∈ q .held) (λ role. role ∈ q .absent)
   rest-closed p q grown rest =
-      let all : Applied (meaning t) q (min roles 128) q = subst (Applied (meaning t) q (min roles 128)) rest (steps-applied (meaning t) q (min roles 128) (omega arith)) in
+      let all : Applied (meaning t) q q = subst (Applied (meaning t) q) rest (round-applied fits q) in
       record {
         contains-held = grown .held .every;
         contains-absent = grown .absent .every;
-        a = λ h m. all .a (plus-below m) h m;
-        b = λ h m. all .b (minus-below m) h m;
-        c = λ m h. all .c (plus-below m) m h;
+        a = all .a;
+        b = all .b;
+        c = all .c;
       }
 
 -- ---- the closure by rounds is the least pair
 
 module _ {t : Table} {roles : ℕ} (fits : Fits t roles) {p : Pair} (sized : SizedPair p) where
   -- it has all that the pair has
-  pub close-contains : Contains p (closeOf t roles p)
+  pub close-contains : Contains p (closeOf (linksFor t roles) p)
   unfolding closeOf
-  close-contains = rounds-keep fits (Contains p) (λ q old. through old (round-contains fits q)) 256 (record { held = record { every = λ h. h }; absent = record { every = λ h. h } })
+  close-contains = rounds-keep fits (Contains p) (λ q old. through old (round-contains t roles q)) 256 (record { held = record { every = λ h. h }; absent = record { every = λ h. h } })
     where
       through : {q r : Pair} → Contains p q → Contains q r → Contains p r
       through one two = record { held = record { every = λ h. two .held .every (one .held .every h) }; absent = record { every = λ h. two .absent .every (one .absent .every h) } }
 
   -- its words are words of 64 bits
-  pub close-sized : SizedPair (closeOf t roles p)
+  pub close-sized : SizedPair (closeOf (linksFor t roles) p)
   unfolding closeOf
   close-sized = rounds-keep fits SizedPair (λ q. round-sized fits) 256 sized
 
   -- it obeys the clauses
-  close-closed : Closed (meaning t) (p .held) (p .absent) (λ role. role ∈ closeOf t roles p .held) (λ role. role ∈ closeOf t roles p .absent)
-  close-closed = rest-closed fits p (closeOf t roles p) close-contains (close-rests fits sized)
+  close-closed : Closed (meaning t) (p .held) (p .absent) (λ role. role ∈ closeOf (linksFor t roles) p .held) (λ role. role ∈ closeOf (linksFor t roles) p .absent)
+  close-closed = rest-closed fits p (closeOf (linksFor t roles) p) close-contains (close-rests fits sized)
 
   -- it goes no further than they do
-  close-sound : Inside (Held (meaning t) (p .held)) (Absent (meaning t) (p .held) (p .absent)) (closeOf t roles p)
+  close-sound : Inside (Held (meaning t) (p .held)) (Absent (meaning t) (p .held) (p .absent)) (closeOf (linksFor t roles) p)
   unfolding closeOf
   close-sound =
       rounds-keep fits (Inside (Held (meaning t) (p .held)) (Absent (meaning t) (p .held) (p .absent)))
       (λ q. round-sound fits (closure-closed (meaning t) (p .held) (p .absent))) 256 (record { held = Held.start; absent = Absent.start })
 
   -- a role is held in the closure by rounds exactly when it is held in the least pair
-  pub close-held : (role : ℕ) → role ∈ closeOf t roles p .held ↔ Held (meaning t) (p .held) role
+  pub close-held : (role : ℕ) → role ∈ closeOf (linksFor t roles) p .held ↔ Held (meaning t) (p .held) role
   close-held role = (close-sound .held, held-least close-closed)
 
   -- and absent exactly when it is absent there
-  pub close-absent : (role : ℕ) → role ∈ closeOf t roles p .absent ↔ Absent (meaning t) (p .held) (p .absent) role
+  pub close-absent : (role : ℕ) → role ∈ closeOf (linksFor t roles) p .absent ↔ Absent (meaning t) (p .held) (p .absent) role
   close-absent role = (close-sound .absent, absent-least close-closed)

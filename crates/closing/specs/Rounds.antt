@@ -1,56 +1,60 @@
 -- The closure of a pair of role sets, computed by rounds.
-use Prim.Native.Nat.{ℕ, zero, suc, min}
+use Prim.Native.Nat.{ℕ, zero, suc}
 use mathlib.Core.Bool.{Bool, cond, _&&_}
+use mathlib.Core.List.{List}
 use Rattle.roles.specs.declared.RoleSet.{RoleSet}
-use Rattle.roles.specs.Sets.{hasRole, singleOf, unionOf, sharesRole, sameSet}
+use Rattle.roles.specs.Sets.{unionOf, sameSet}
 use Rattle.model.specs.declared.Typing.{Typing as Table}
-use Rattle.model.specs.Typing.{Typing}
-use Rattle.model.specs.Meaning.{meaning}
+use Rattle.sheets.specs.Turned.{setsOf, Turned, turnedOf}
+use Rattle.sheets.specs.Words.{setIn}
 use Rattle.closing.specs.declared.Pair.{Pair}
 
--- the set with the roles of another where the test holds, and as it is where it does not
-unfoldable pub addIf : Bool → RoleSet → RoleSet → RoleSet
-addIf test more s = cond test (unionOf s more) s
+-- What leads from role to role: a role's plus set, its minus set, and the roles that have it in their plus set.
+pub record Links : Type 0 where
+  pub plus : ℕ → RoleSet
+  pub minus : ℕ → RoleSet
+  pub needed : ℕ → RoleSet
 
--- What one role adds to a new pair, read off the pair as it stood:
--- (a) where the role is held, its plus set is held;
--- (b) where the role is held, its minus set is absent;
--- (c) where its plus set shares a role with absent, the role is absent.
-unfoldable pub roleStep : Typing → Pair → ℕ → Pair → Pair
-roleStep Γ stood role new = record {
-  held = addIf (hasRole (stood .held) role) (Γ .plus role) (new .held);
-  absent = addIf (sharesRole (Γ .plus role) (stood .absent)) (singleOf role) (addIf (hasRole (stood .held) role) (Γ .minus role) (new .absent));
+-- Those of a typing turned round, of a typing over its first roles, and of three tables.
+unfoldable pub linksOf : Turned → Links
+linksOf said = record { plus = said .plus; minus = said .minus; needed = said .needed }
+
+unfoldable pub linksFor : Table → ℕ → Links
+linksFor t roles = linksOf (turnedOf t roles)
+
+unfoldable pub linksIn : List ℕ → List ℕ → List ℕ → Links
+linksIn plus minus needed = record { plus = setIn plus; minus = setIn minus; needed = setIn needed }
+
+-- One round: every clause applied at once to the pair as it stood.
+-- (a) a held role's plus set is held;
+-- (b) a held role's minus set is absent;
+-- (c) a role whose plus set shares a role with absent is absent: all those that have an absent role in their plus set.
+unfoldable pub roundOf : Links → Pair → Pair
+roundOf links pair = record {
+  held = unionOf (pair .held) (setsOf (links .plus) (pair .held));
+  absent = unionOf (unionOf (pair .absent) (setsOf (links .minus) (pair .held))) (setsOf (links .needed) (pair .absent));
 }
-
--- the pair as it stood with all that the roles below a number add to it
-unfoldable pub stepsBelow : Typing → Pair → ℕ → Pair
-stepsBelow Γ stood zero = stood
-stepsBelow Γ stood (suc role) = roleStep Γ stood role (stepsBelow Γ stood role)
-
--- One round: every clause applied at once to the pair as it stood, for the roles below a number, of which there are at most 128.
-unfoldable pub roundOf : Table → ℕ → Pair → Pair
-roundOf t roles pair = stepsBelow (meaning t) pair (min roles 128)
 
 -- the two pairs have the same sets
 unfoldable pub samePair : Pair → Pair → Bool
 samePair p q = sameSet (p .held) (q .held) && sameSet (p .absent) (q .absent)
 
 -- rounds until one changes nothing, and at most so many
-unfoldable pub roundsOf : ℕ → Table → ℕ → Pair → Pair
-roundsOf zero t roles pair = pair
-roundsOf (suc most) t roles pair =
-    let next = roundOf t roles pair in
-    let rest = roundsOf most t roles next in
+unfoldable pub roundsOf : ℕ → Links → Pair → Pair
+roundsOf zero links pair = pair
+roundsOf (suc most) links pair =
+    let next = roundOf links pair in
+    let rest = roundsOf most links next in
     cond (samePair pair next) pair rest
 
 -- how many of those rounds changed something
-unfoldable pub changesOf : ℕ → Table → ℕ → Pair → ℕ
-changesOf zero t roles pair = zero
-changesOf (suc most) t roles pair =
-    let next = roundOf t roles pair in
-    let rest = suc (changesOf most t roles next) in
+unfoldable pub changesOf : ℕ → Links → Pair → ℕ
+changesOf zero links pair = zero
+changesOf (suc most) links pair =
+    let next = roundOf links pair in
+    let rest = suc (changesOf most links next) in
     cond (samePair pair next) zero rest
 
 -- The closure: rounds until nothing changes. 256 are enough for two sets of 128 roles.
-unfoldable pub closeOf : Table → ℕ → Pair → Pair
-closeOf t roles pair = roundsOf 256 t roles pair
+unfoldable pub closeOf : Links → Pair → Pair
+closeOf links pair = roundsOf 256 links pair

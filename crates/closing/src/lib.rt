@@ -1,34 +1,14 @@
 // The closure of a pair of role sets under a typing, by rounds until nothing changes.
 ghost use mathlib.Core.Path.{_≡_};
-ghost use Prim.Native.Nat.{min};
-ghost use Rattle.closing.specs.Rounds.{addIf, samePair, roundOf, closeOf};
-use model::Typing;
+ghost use Rattle.closing.specs.Rounds.{linksIn, samePair, closeOf};
+ghost use Rattle.closing.specs.Fresh.{freshRound};
 use roles::RoleSet;
+use sheets::sets_of;
 
 // A pair of role sets: roles known to be held, roles known to be absent.
 pub struct Pair {
     pub held: RoleSet,
     pub absent: RoleSet,
-}
-
-// How many roles there are to go through: at most 128.
-pub fn limited(roles: usize) -> usize
-    ensures { λ r. ⌜ r ≡ min roles 128 ⌝ }
-{
-    if roles < 128 {
-        return roles;
-    }
-    128
-}
-
-// The set with the roles of another where the test holds, and as it is where it does not.
-fn add_if(test: bool, more: RoleSet, set: RoleSet) -> RoleSet
-    ensures { λ r. ⌜ r ≡ addIf test more set ⌝ }
-{
-    if test {
-        return set.union(more);
-    }
-    set
 }
 
 // Whether both pairs have the same roles held and the same roles absent.
@@ -38,37 +18,48 @@ fn same(one: Pair, other: Pair) -> bool
     one.held.same(other.held) & one.absent.same(other.absent)
 }
 
-// One round: every clause applied at once to the pair as it stood, for the roles below `roles`.
-pub fn round(typing: Typing, roles: usize, pair: Pair) -> Pair
-    ensures { λ r. ⌜ r ≡ roundOf typing roles pair ⌝ }
+// One round for the roles of the pair that are not in an earlier one: every clause applied at once to the pair as it stood.
+fn round<'a>(
+    plus: &'a [u64; 256],
+    minus: &'a [u64; 256],
+    needed: &'a [u64; 256],
+    before: Pair,
+    pair: Pair,
+) -> Pair
+    ensures { λ r. ⌜ r ≡ freshRound (linksIn (now (plus .entry)) (now (minus .entry)) (now (needed .entry))) before pair ⌝ }
 {
-    let count = limited(roles);
-    let mut held = pair.held;
-    let mut absent = pair.absent;
-    let mut role = 0;
-    while role < count {
-        let plus = typing.plus[role];
-        let minus = typing.minus[role];
-        let holds = pair.held.has(role);
-        held = add_if(holds, plus, held);
-        absent = add_if(holds, minus, absent);
-        absent = add_if(plus.shares(pair.absent), RoleSet::single(role), absent);
-        role += 1;
+    let held = pair.held.less(before.held);
+    let absent = pair.absent.less(before.absent);
+    let barred = pair.absent.union(sets_of(minus, held));
+    Pair {
+        held: pair.held.union(sets_of(plus, held)),
+        absent: barred.union(sets_of(needed, absent)),
     }
-    Pair { held, absent }
 }
 
-// Rounds until nothing changes. Each round that changes something adds a role to one of the two sets, so 256 are enough.
-pub fn close(typing: Typing, roles: usize, pair: Pair) -> Pair
-    ensures { λ r. ⌜ r ≡ closeOf typing roles pair ⌝ }
+// Rounds until nothing changes, each for the roles that are new. A round that changes something adds a role to one of the two sets,
+// so 256 are enough.
+pub fn close<'a>(
+    plus: &'a [u64; 256],
+    minus: &'a [u64; 256],
+    needed: &'a [u64; 256],
+    pair: Pair,
+) -> Pair
+    ensures { λ r. ⌜ r ≡ closeOf (linksIn (now (plus .entry)) (now (minus .entry)) (now (needed .entry))) pair ⌝ }
 {
+    let none = RoleSet::empty();
+    let mut before = Pair {
+        held: none,
+        absent: none,
+    };
     let mut now = pair;
     let mut changes: usize = 0;
     while changes < 256 {
-        let next = round(typing, roles, now);
+        let next = round(plus, minus, needed, before, now);
         if same(now, next) {
             return now;
         }
+        before = now;
         now = next;
         changes += 1;
     }

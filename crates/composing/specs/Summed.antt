@@ -9,8 +9,7 @@ use native.Mathlib.Omega.{arith}
 use Rattle.roles.specs.declared.RoleSet.{RoleSet}
 use Rattle.roles.specs.Sets.{emptySet, unionOf}
 use Rattle.roles.specs.Members.{union-cases}
-use Rattle.closing.specs.Rounds.{addIf}
-use Rattle.closing.specs.Adding.{add-sized}
+use Rattle.sheets.specs.Members.{union-sized}
 use Rattle.model.specs.declared.Typing.{Typing as Table}
 use Rattle.model.specs.Typing.{sum}
 use Rattle.model.specs.Meaning.{meaning}
@@ -46,9 +45,8 @@ module _ {A : Type 0} (f : A → A → A) (P : A → Type 0) (keeps : (x y : A) 
 
 -- the union of two sets inside the roles
 union-inside : (roles : ℕ) (s t : RoleSet) → Inside roles s → Inside roles t → Inside roles (unionOf s t)
-unfolding addIf
 union-inside roles s t one two = record {
-  sized = add-sized true (two .sized) (one .sized);
+  sized = union-sized (one .sized) (two .sized);
   below = λ {role} found. ⊎-elim (one .below) (two .below) (union-cases s t found);
 }
 

@@ -16,12 +16,13 @@ use Rattle.model.specs.Policy.{Policy, State, nobody, person, Run, Bad}
 use Rattle.model.specs.Typing.{Typing, closure, AssignPasses, RevokePasses, WellTyped, HoldingsPass, GoalPasses, RulesPass, Accepted}
 use Rattle.model.specs.Meaning.{meaning}
 use Rattle.model.specs.Safety.{accepted-safe}
+use Rattle.sheets.specs.Turned.{turnedOf}
 use Rattle.rules.specs.Tests.{personPasses, assignPasses, revokePasses, goalPasses}
 use Rattle.rules.specs.Exact.{Laid, SizedRule, person-exact, assign-exact, revoke-exact, goal-exact}
 use Rattle.reading.specs.Policy.{Said, policyOf}
 use Rattle.judging.specs.declared.Part.{Part}
 use Rattle.judging.specs.declared.TypingVerdict.{TypingVerdict}
-use Rattle.judging.specs.Verdict.{subjectOf, firstHolding, firstAssign, firstRevoke, firstGoal, failingPart, andThen, judgedRules, judgedTyping, rulesVerdict, typingVerdict}
+use Rattle.judging.specs.Verdict.{subjectOf, firstHolding, firstAssign, firstRevoke, firstGoal, failingPart, andThen, rulesSaid, allSaid, judgedRules, judgedTyping, rulesVerdict, typingVerdict}
 use Rattle.judging.specs.Failing.{FirstBad}
 use Rattle.judging.specs.Order.{both-accepted, one-fails, part-accepted, part-fails}
 
@@ -63,34 +64,34 @@ holdings-each Γ σ = (
 module _ {s : Said} {t : Table} (sized : SizedPolicy s) (laid : Laid t (length (s .roles))) where
   -- ---- each part's test is exact
 
-  persons-exact : (p : Person) → Listed p (s .holdings) → personPasses t (length (s .roles)) p ≡ true ↔ WellTyped (meaning t) p
+  persons-exact : (p : Person) → Listed p (s .holdings) → personPasses (turnedOf t (length (s .roles))) p ≡ true ↔ WellTyped (meaning t) p
   persons-exact p m = person-exact laid p
 
-  assigns-exact : (rule : Assign) → Listed rule (s .assigns) → assignPasses t (length (s .roles)) rule ≡ true ↔ AssignPasses closure (meaning t) rule
+  assigns-exact : (rule : Assign) → Listed rule (s .assigns) → assignPasses (turnedOf t (length (s .roles))) rule ≡ true ↔ AssignPasses closure (meaning t) rule
   assigns-exact rule m = assign-exact laid rule (sized .assigns m)
 
-  revokes-exact : (rule : Revoke) → Listed rule (s .revokes) → revokePasses t (length (s .roles)) rule ≡ true ↔ RevokePasses (meaning t) rule
+  revokes-exact : (rule : Revoke) → Listed rule (s .revokes) → revokePasses (turnedOf t (length (s .roles))) rule ≡ true ↔ RevokePasses (meaning t) rule
   revokes-exact rule m = revoke-exact (laid .fits) rule
 
-  goals-exact : (goal : RoleSet) → Listed goal (s .goals) → goalPasses t (length (s .roles)) goal ≡ true ↔ GoalPasses closure (meaning t) goal
+  goals-exact : (goal : RoleSet) → Listed goal (s .goals) → goalPasses (turnedOf t (length (s .roles))) goal ≡ true ↔ GoalPasses closure (meaning t) goal
   goals-exact goal m = goal-exact laid goal (sized .goals m)
 
   -- ---- accepted
 
-  holdings-accepted : failingPart Part.Holdings (firstHolding (subjectOf s) t) ≡ TypingVerdict.Accepted ↔ HoldingsPass (meaning t) (s .holdings)
+  holdings-accepted : failingPart Part.Holdings (firstHolding (subjectOf s) (turnedOf t (length (s .roles)))) ≡ TypingVerdict.Accepted ↔ HoldingsPass (meaning t) (s .holdings)
   unfolding subjectOf firstHolding
   holdings-accepted =
       let each = holdings-each (meaning t) (s .holdings) in
       let part = part-accepted Part.Holdings persons-exact in
       (λ e. each .1 (part .0 e), λ pass. part .1 (each .0 pass))
 
-  goals-accepted : failingPart Part.Goal (firstGoal (subjectOf s) t) ≡ TypingVerdict.Accepted ↔ ((goal : RoleSet) → Listed goal (s .goals) → GoalPasses closure (meaning t) goal)
+  goals-accepted : failingPart Part.Goal (firstGoal (subjectOf s) (turnedOf t (length (s .roles)))) ≡ TypingVerdict.Accepted ↔ ((goal : RoleSet) → Listed goal (s .goals) → GoalPasses closure (meaning t) goal)
   unfolding subjectOf policyOf firstGoal
   goals-accepted = part-accepted Part.Goal goals-exact
 
   -- The verdict on the rules is accepted exactly when the rules pass.
   pub rules-accepted : rulesVerdict s t ≡ TypingVerdict.Accepted ↔ RulesPass closure (meaning t) (policyOf s)
-  unfolding rulesVerdict judgedRules subjectOf policyOf firstAssign firstRevoke
+  unfolding rulesVerdict judgedRules rulesSaid subjectOf policyOf firstAssign firstRevoke
   rules-accepted =
       let assigns = part-accepted Part.Assign assigns-exact in
       let revokes = part-accepted Part.Revoke revokes-exact in
@@ -101,7 +102,7 @@ module _ {s : Said} {t : Table} (sized : SizedPolicy s) (laid : Laid t (length (
 
   -- The verdict is accepted exactly when the typing is accepted.
   pub typing-accepted : typingVerdict s t ≡ TypingVerdict.Accepted ↔ Accepted (meaning t) (policyOf s) (s .holdings)
-  unfolding typingVerdict judgedTyping rulesVerdict policyOf
+  unfolding typingVerdict judgedTyping allSaid rulesVerdict policyOf subjectOf judgedRules rulesSaid
   typing-accepted =
       let later-parts = both-accepted _ _ in
       let all = both-accepted _ _ in (
@@ -121,14 +122,14 @@ module _ {s : Said} {t : Table} (sized : SizedPolicy s) (laid : Laid t (length (
 
   -- The verdict on the rules is a failure exactly when that is the first.
   pub rules-first : (part : Part) (number : ℕ) → rulesVerdict s t ≡ TypingVerdict.Fails part number ↔ FirstRule (meaning t) (policyOf s) part number
-  unfolding rulesVerdict judgedRules subjectOf policyOf firstAssign firstRevoke
+  unfolding rulesVerdict judgedRules rulesSaid subjectOf policyOf firstAssign firstRevoke
   rules-first part number = (λ e. told (one-fails assigns revokes part number .0 e), found)
     where
       assigns : TypingVerdict
-      assigns = failingPart Part.Assign (firstAssign (subjectOf s) t)
+      assigns = failingPart Part.Assign (firstAssign (subjectOf s) (turnedOf t (length (s .roles))))
 
       revokes : TypingVerdict
-      revokes = failingPart Part.Revoke (firstRevoke (subjectOf s) t)
+      revokes = failingPart Part.Revoke (firstRevoke (subjectOf s) (turnedOf t (length (s .roles))))
 
       told : (assigns ≡ TypingVerdict.Fails part number) ⊎ ((assigns ≡ TypingVerdict.Accepted) × (revokes ≡ TypingVerdict.Fails part number)) → FirstRule (meaning t) (policyOf s) part number
       told (inl e) =
@@ -145,17 +146,17 @@ module _ {s : Said} {t : Table} (sized : SizedPolicy s) (laid : Laid t (length (
 
   -- The verdict is a failure exactly when that is the first in document 01's order.
   pub unproved-first : (part : Part) (number : ℕ) → typingVerdict s t ≡ TypingVerdict.Fails part number ↔ FirstFailure (meaning t) (policyOf s) (s .holdings) part number
-  unfolding typingVerdict judgedTyping rulesVerdict subjectOf policyOf firstHolding firstGoal
+  unfolding typingVerdict judgedTyping allSaid rulesVerdict subjectOf policyOf firstHolding firstGoal judgedRules rulesSaid
   unproved-first part number = (λ e. told (one-fails users after-users part number .0 e), found)
     where
       users : TypingVerdict
-      users = failingPart Part.Holdings (firstHolding (subjectOf s) t)
+      users = failingPart Part.Holdings (firstHolding (subjectOf s) (turnedOf t (length (s .roles))))
 
       rules : TypingVerdict
       rules = rulesVerdict s t
 
       goals : TypingVerdict
-      goals = failingPart Part.Goal (firstGoal (subjectOf s) t)
+      goals = failingPart Part.Goal (firstGoal (subjectOf s) (turnedOf t (length (s .roles))))
 
       after-users : TypingVerdict
       after-users = andThen rules goals

@@ -28,22 +28,22 @@ not-false true e = refl
 not-false false e = absurd (true≢false e)
 
 -- After i turns the answer for the elements that are counted is the answer for those still to come.
-pub record Turned {A : Type 0} (test : A → Bool) (xs : List A) (count answer i : ℕ) : Type 0 where
+pub record Looked {A : Type 0} (test : A → Bool) (xs : List A) (count answer i : ℕ) : Type 0 where
   pub reached : i ≤ count
   pub room : count ≤ length xs
   pub left : answer ≡ firstFrom (i + 1) test (drop i (take count xs))
 
-module _ {A : Type 0} {test : A → Bool} {xs : List A} {count answer : ℕ} where
-  -- before the first turn
-  pub turned-start : count ≤ length xs → answer ≡ firstFailing test (take count xs) → Turned test xs count answer 0
-  unfolding firstFailing
-  turned-start room is = record { reached = zero-le; room = room; left = is }
+-- before the first turn
+pub looked-start : {A : Type 0} {test : A → Bool} {xs : List A} {count counted : ℕ} → count ≡ counted → count ≤ length xs → Looked test xs count (firstFailing test (take counted xs)) 0
+unfolding firstFailing
+looked-start same room = record { reached = zero-le; room = room; left = rw same }
 
-  module _ {i : ℕ} (so-far : Turned test xs count answer i) where
+module _ {A : Type 0} {test : A → Bool} {xs : List A} {count answer : ℕ} where
+  module _ {i : ℕ} (so-far : Looked test xs count answer i) where
     -- no element is left
-    pub turned-end : count ≤ i → 0 ≡ answer
+    pub looked-end : count ≤ i → 0 ≡ answer
     unfolding firstFrom
-    turned-end all = sym (so-far .left ∙ ap (firstFrom (i + 1) test) (drop-of-length-le (take count xs) {i = i} (omega (arith, length-take-le count xs (so-far .room)))))
+    looked-end all = sym (so-far .left ∙ ap (firstFrom (i + 1) test) (drop-of-length-le (take count xs) {i = i} (omega (arith, length-take-le count xs (so-far .room)))))
 
     module _ (here : i < count) {passes : Bool} (past : A) (is : passes ≡ test (getD xs i past)) where
       -- the next element, and those after it
@@ -54,13 +54,13 @@ module _ {A : Type 0} {test : A → Bool} {xs : List A} {count answer : ℕ} whe
           ∙ ap (λ (k : ℕ). getD xs i past ∷ drop k (take count xs)) (sym (add-one i))
 
       -- it fails
-      pub turned-fails : not passes ≡ true → i + 1 ≡ answer
-      turned-fails fails =
+      pub looked-fails : not passes ≡ true → i + 1 ≡ answer
+      looked-fails fails =
           sym (so-far .left ∙ ap (firstFrom (i + 1) test) next ∙ from-fails test (i + 1) (getD xs i past) (drop (i + 1) (take count xs)) (sym is ∙ not-true passes fails))
 
       -- it passes
-      pub turned-passes : not passes ≡ false → Turned test xs count answer (i + 1)
-      turned-passes ok = record {
+      pub looked-passes : not passes ≡ false → Looked test xs count answer (i + 1)
+      looked-passes ok = record {
         reached = omega arith;
         room = so-far .room;
         left =

@@ -8,6 +8,7 @@ use Rattle.model.specs.declared.Typing.{Typing as Table}
 use Rattle.model.specs.Policy.{Policy, State}
 use Rattle.model.specs.Typing.{Typing}
 use Rattle.model.specs.Meaning.{meaning}
+use Rattle.sheets.specs.Turned.{Turned, turnedOf}
 use Rattle.rules.specs.Tests.{personPasses, assignPasses, revokePasses, goalPasses}
 use Rattle.reading.specs.declared.policy.Policy.{Policy as Arrays}
 use Rattle.reading.specs.Policy.{Said, policyOf}
@@ -50,18 +51,18 @@ subjectIn p = record {
 
 -- ---- the verdict
 
--- The first user whose holdings fail, and the first assign rule, revoke rule and goal that fails.
-unfoldable pub firstHolding : Subject → Table → ℕ
-firstHolding subject t = firstFailing (personPasses t (subject .roles)) (subject .holdings)
+-- By what a typing says: the first user whose holdings fail, and the first assign rule, revoke rule and goal that fails.
+unfoldable pub firstHolding : Subject → Turned → ℕ
+firstHolding subject said = firstFailing (personPasses said) (subject .holdings)
 
-unfoldable pub firstAssign : Subject → Table → ℕ
-firstAssign subject t = firstFailing (assignPasses t (subject .roles)) (subject .policy .assigns)
+unfoldable pub firstAssign : Subject → Turned → ℕ
+firstAssign subject said = firstFailing (assignPasses said) (subject .policy .assigns)
 
-unfoldable pub firstRevoke : Subject → Table → ℕ
-firstRevoke subject t = firstFailing (revokePasses t (subject .roles)) (subject .policy .revokes)
+unfoldable pub firstRevoke : Subject → Turned → ℕ
+firstRevoke subject said = firstFailing (revokePasses said) (subject .policy .revokes)
 
-unfoldable pub firstGoal : Subject → Table → ℕ
-firstGoal subject t = firstFailing (goalPasses t (subject .roles)) (subject .policy .goals)
+unfoldable pub firstGoal : Subject → Turned → ℕ
+firstGoal subject said = firstFailing (goalPasses said) (subject .policy .goals)
 
 -- The verdict on one part, by the number of its first failure.
 unfoldable pub failingPart : Part → ℕ → TypingVerdict
@@ -74,12 +75,19 @@ andThen TypingVerdict.Accepted next = next
 andThen (TypingVerdict.Fails part number) next = TypingVerdict.Fails part number
 
 -- Assign rules, then revoke rules.
-unfoldable pub judgedRules : Subject → Table → TypingVerdict
-judgedRules subject t = andThen (failingPart Part.Assign (firstAssign subject t)) (failingPart Part.Revoke (firstRevoke subject t))
+unfoldable pub rulesSaid : Subject → Turned → TypingVerdict
+rulesSaid subject said = andThen (failingPart Part.Assign (firstAssign subject said)) (failingPart Part.Revoke (firstRevoke subject said))
 
 -- Holdings, assign rules, revoke rules, then goals.
+unfoldable pub allSaid : Subject → Turned → TypingVerdict
+allSaid subject said = andThen (failingPart Part.Holdings (firstHolding subject said)) (andThen (rulesSaid subject said) (failingPart Part.Goal (firstGoal subject said)))
+
+-- The verdict of a typing on the rules alone, and on everything.
+unfoldable pub judgedRules : Subject → Table → TypingVerdict
+judgedRules subject t = rulesSaid subject (turnedOf t (subject .roles))
+
 unfoldable pub judgedTyping : Subject → Table → TypingVerdict
-judgedTyping subject t = andThen (failingPart Part.Holdings (firstHolding subject t)) (andThen (judgedRules subject t) (failingPart Part.Goal (firstGoal subject t)))
+judgedTyping subject t = allSaid subject (turnedOf t (subject .roles))
 
 -- The verdict of a typing on the rules of a policy text alone, and on the whole policy.
 unfoldable pub rulesVerdict : Said → Table → TypingVerdict

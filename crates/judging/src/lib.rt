@@ -1,9 +1,19 @@
 // The verdict on a typing: holdings, assign rules, revoke rules and goals in this order, and the first that fails.
+ghost use mathlib.Core.List.{List};
 ghost use mathlib.Core.Path.{_≡_};
-ghost use Prim.Native.Nat.{min};
-ghost use Rattle.judging.specs.Verdict.{subjectIn, firstHolding, firstAssign, firstRevoke, firstGoal, failingPart, partNumber, judgedRules, judgedTyping, pinnedNames};
+ghost use Prim.Native.Nat.{ℕ, min};
+ghost use lib.ListN.{take};
+ghost use Rattle.roles.specs.declared.RoleSet.{RoleSet as Set};
+ghost use Rattle.sheets.specs.Words.{saidIn};
+ghost use Rattle.rules.specs.Tests.{personPasses, assignPasses, revokePasses, goalPasses};
+ghost use Rattle.judging.specs.Verdict.{firstFailing, subjectIn, failingPart, rulesSaid, judgedRules, judgedTyping, partNumber, pinnedNames};
+use model::Assign;
+use model::Person;
+use model::Revoke;
 use model::Typing;
 use reading::policy::Policy;
+use roles::RoleSet;
+use sheets::lay_out;
 
 // Which part of a policy a typing fails on.
 pub enum Part {
@@ -42,69 +52,92 @@ fn smaller(count: usize, length: usize) -> usize
 }
 
 // The number, from 1, of the first user whose holdings fail; 0 where all pass.
-pub fn first_holding(p: Policy, t: Typing) -> usize
-    ensures { λ r. ⌜ r ≡ firstHolding (subjectIn p) t ⌝ }
+fn first_holding<'a>(
+    persons: [Person; 64],
+    count: usize,
+    plus: &'a [u64; 256],
+    minus: &'a [u64; 256],
+    high: RoleSet,
+) -> usize
+    ensures { λ r. ⌜ ((needed opposed : List ℕ) → r ≡ firstFailing (personPasses (saidIn (now (plus .entry)) (now (minus .entry)) needed opposed high)) (take (min count 64) persons)) ⌝ }
 {
-    let roles = p.counts.roles;
-    let count = smaller(p.counts.users, 64);
-    let mut user = 0;
-    while user < count {
-        let person = p.persons[user];
-        if !rules::person_passes(t, roles, person) {
-            return user + 1;
+    let end = smaller(count, 64);
+    let mut number = 0;
+    while number < end {
+        let next = persons[number];
+        number += 1;
+        if !rules::person_passes(plus, minus, high, next) {
+            return number;
         }
-        user += 1;
     }
     0
 }
 
 // The number, from 1, of the first assign rule that fails; 0 where all pass.
-pub fn first_assign(p: Policy, t: Typing) -> usize
-    ensures { λ r. ⌜ r ≡ firstAssign (subjectIn p) t ⌝ }
+fn first_assign<'a>(
+    assigns: [Assign; 256],
+    count: usize,
+    plus: &'a [u64; 256],
+    minus: &'a [u64; 256],
+    needed: &'a [u64; 256],
+    opposed: &'a [u64; 256],
+    high: RoleSet,
+) -> usize
+    ensures { λ r. ⌜ r ≡ firstFailing (assignPasses (saidIn (now (plus .entry)) (now (minus .entry)) (now (needed .entry)) (now (opposed .entry)) high)) (take (min count 256) assigns) ⌝ }
 {
-    let roles = p.counts.roles;
-    let count = smaller(p.counts.assigns, 256);
-    let mut assign = 0;
-    while assign < count {
-        let rule = p.assigns[assign];
-        if !rules::assign_passes(t, roles, rule) {
-            return assign + 1;
+    let end = smaller(count, 256);
+    let mut number = 0;
+    while number < end {
+        let next = assigns[number];
+        number += 1;
+        if !rules::assign_passes(plus, minus, needed, opposed, high, next) {
+            return number;
         }
-        assign += 1;
     }
     0
 }
 
 // The number, from 1, of the first revoke rule that fails; 0 where all pass.
-pub fn first_revoke(p: Policy, t: Typing) -> usize
-    ensures { λ r. ⌜ r ≡ firstRevoke (subjectIn p) t ⌝ }
+fn first_revoke<'a>(
+    revokes: [Revoke; 256],
+    count: usize,
+    plus: &'a [u64; 256],
+    minus: &'a [u64; 256],
+    needed: &'a [u64; 256],
+) -> usize
+    ensures { λ r. ⌜ ((opposed : List ℕ) (high : Set) → r ≡ firstFailing (revokePasses (saidIn (now (plus .entry)) (now (minus .entry)) (now (needed .entry)) opposed high)) (take (min count 256) revokes)) ⌝ }
 {
-    let roles = p.counts.roles;
-    let count = smaller(p.counts.revokes, 256);
-    let mut revoke = 0;
-    while revoke < count {
-        let rule = p.revokes[revoke];
-        if !rules::revoke_passes(t, roles, rule) {
-            return revoke + 1;
+    let end = smaller(count, 256);
+    let mut number = 0;
+    while number < end {
+        let next = revokes[number];
+        number += 1;
+        if !rules::revoke_passes(plus, minus, needed, next) {
+            return number;
         }
-        revoke += 1;
     }
     0
 }
 
 // The number, from 1, of the first goal that fails; 0 where all pass.
-pub fn first_goal(p: Policy, t: Typing) -> usize
-    ensures { λ r. ⌜ r ≡ firstGoal (subjectIn p) t ⌝ }
+fn first_goal<'a>(
+    goals: [RoleSet; 32],
+    count: usize,
+    plus: &'a [u64; 256],
+    minus: &'a [u64; 256],
+    needed: &'a [u64; 256],
+    high: RoleSet,
+) -> usize
+    ensures { λ r. ⌜ ((opposed : List ℕ) → r ≡ firstFailing (goalPasses (saidIn (now (plus .entry)) (now (minus .entry)) (now (needed .entry)) opposed high)) (take (min count 32) goals)) ⌝ }
 {
-    let roles = p.counts.roles;
-    let count = smaller(p.counts.goals, 32);
-    let mut goal = 0;
-    while goal < count {
-        let set = p.goals[goal];
-        if !rules::goal_passes(t, roles, set) {
-            return goal + 1;
+    let end = smaller(count, 32);
+    let mut number = 0;
+    while number < end {
+        let next = goals[number];
+        number += 1;
+        if !rules::goal_passes(plus, minus, needed, high, next) {
+            return number;
         }
-        goal += 1;
     }
     0
 }
@@ -119,30 +152,67 @@ fn failing(part: Part, number: usize) -> TypingVerdict
     TypingVerdict::Fails(part, number)
 }
 
+// The verdict on the rules alone, by the typing's sheet: assign rules, then revoke rules.
+fn rules_verdict<'a>(
+    p: Policy,
+    plus: &'a [u64; 256],
+    minus: &'a [u64; 256],
+    needed: &'a [u64; 256],
+    opposed: &'a [u64; 256],
+    high: RoleSet,
+) -> TypingVerdict
+    ensures { λ r. ⌜ r ≡ rulesSaid (subjectIn p) (saidIn (now (plus .entry)) (now (minus .entry)) (now (needed .entry)) (now (opposed .entry)) high) ⌝ }
+{
+    let assigns = p.assigns;
+    let revokes = p.revokes;
+    let first = first_assign(
+        assigns,
+        p.counts.assigns,
+        plus,
+        minus,
+        needed,
+        opposed,
+        high,
+    );
+    let verdict = failing(Part::Assign, first);
+    let TypingVerdict::Accepted = verdict else {
+        return verdict;
+    };
+    failing(
+        Part::Revoke,
+        first_revoke(revokes, p.counts.revokes, plus, minus, needed),
+    )
+}
+
 // The verdict on the rules alone: assign rules, then revoke rules.
 pub fn judge_rules(p: Policy, t: Typing) -> TypingVerdict
     ensures { λ r. ⌜ r ≡ judgedRules (subjectIn p) t ⌝ }
 {
-    let assigns = failing(Part::Assign, first_assign(p, t));
-    let TypingVerdict::Accepted = assigns else {
-        return assigns;
-    };
-    failing(Part::Revoke, first_revoke(p, t))
+    let s = lay_out(t, p.counts.roles);
+    rules_verdict(p, &s.plus, &s.minus, &s.needed, &s.opposed, s.high)
 }
 
 // The verdict on a typing: holdings, assign rules, revoke rules, then goals.
 pub fn judge_typing(p: Policy, t: Typing) -> TypingVerdict
     ensures { λ r. ⌜ r ≡ judgedTyping (subjectIn p) t ⌝ }
 {
-    let holdings = failing(Part::Holdings, first_holding(p, t));
+    let s = lay_out(t, p.counts.roles);
+    let persons = p.persons;
+    let goals = p.goals;
+    let high = s.high;
+    let first = first_holding(persons, p.counts.users, &s.plus, &s.minus, high);
+    let holdings = failing(Part::Holdings, first);
     let TypingVerdict::Accepted = holdings else {
         return holdings;
     };
-    let rules = judge_rules(p, t);
+    let rules = rules_verdict(p, &s.plus, &s.minus, &s.needed, &s.opposed, high);
     let TypingVerdict::Accepted = rules else {
         return rules;
     };
-    failing(Part::Goal, first_goal(p, t))
+    failing(
+        Part::Goal,
+        first_goal(goals, p.counts.goals, &s.plus, &s.minus, &s.needed, high),
+    )
 }
 
 // How many names stand in all plus and minus sets of the roles.

@@ -1,18 +1,19 @@
 -- Membership of a role in a set, and the law of each operation over membership.
 use Prim.Native.Nat.{ℕ, zero, suc, _+_, _-_, _*_, _/_, _%_, _^_, _≤_, _<_}
-use mathlib.Core.Bool.{Bool, true, false, cond, not, _&&_, _||_, false≢true, or-true, and-eq-true-iff}
+use mathlib.Core.Bool.{Bool, true, false, cond, not, _&&_, _||_, false≢true, or-true, and-true, and-eq-true-iff}
 use mathlib.Core.Logic.{_⊎_, inl, inr}
 use mathlib.Core.Path.{_≡_, refl, sym, ap, ap₂, _∙_, subst, subst⁻¹}
-use borrow.Author.Tests.{ltb-true, ltb-false, lt-ltb, le-ltb, eqb-true, eqb-false, eq-eqb}
-use lib.Bits.{bitAnd, bitOr, bitXor, and-self, or-self, or-comm, and-le-l}
+use borrow.Author.Tests.{ltb-true, ltb-false, lt-ltb, le-ltb, eqb-true, eqb-false, eq-eqb, ne-eqb}
+use lib.Bits.{bitAnd, bitOr, bitXor, and-self, or-self, or-comm, or-zero-r, and-le-l}
+use lib.Count.{trailingZeros, trailing-le}
 use lib.Dec.{ltb, eqb}
 use lib.Pow.{pow-pos}
 use native.Mathlib.Decide.{decLt}
 use native.Mathlib.Nat.{lt-of-le-of-lt, add-sub-cancel-left}
 use native.Mathlib.Omega.{arith}
 use Rattle.roles.specs.declared.RoleSet.{RoleSet}
-use Rattle.roles.specs.Sets.{bit, hasRole, emptySet, singleOf, unionOf, meetOf, withOf, lessOf, withoutOf, sameSet, sharesRole, includes, sizeOf}
-use Rattle.roles.specs.Words.{differs, bit-or, bit-and, bit-xor, bit-own, bit-other, bit-zero, same-bits, or-assoc, search-below, tally, tally-join, tally-same, ones-tally}
+use Rattle.roles.specs.Sets.{bit, hasRole, emptySet, singleOf, unionOf, meetOf, withOf, lessOf, apartOf, withoutOf, sameSet, sharesRole, includes, sizeOf, lowestRole}
+use Rattle.roles.specs.Words.{differs, bit-or, bit-and, bit-xor, bit-own, bit-other, bit-zero, same-bits, or-assoc, search-below, trailing-set, trailing-clear, tally, tally-join, tally-same, tally-less, ones-tally}
 
 infix 40 _∈_
 -- the role is in the set
@@ -222,28 +223,32 @@ pub with-new : {more : ℕ} (s : RoleSet) → more < 128 → more ∈ withOf s m
 unfolding withOf
 with-new s h = union-right s (single-own h)
 
--- of a set less the part of it that is in another, a role is in the first and not in the other
-has-without : (s t : RoleSet) (role : ℕ) → hasRole (lessOf s (meetOf s t)) role ≡ (hasRole s role && not (hasRole t role))
-has-without s t role = has-less s (meetOf s t) role ∙ ap (differs (hasRole s role)) (has-meet s t role) ∙ go (hasRole s role) (hasRole t role)
+pub has-apart : (s t : RoleSet) (role : ℕ) → hasRole (apartOf s t) role ≡ (hasRole s role && not (hasRole t role))
+unfolding apartOf
+has-apart s t role = has-less s (meetOf s t) role ∙ ap (differs (hasRole s role)) (has-meet s t role) ∙ go (hasRole s role) (hasRole t role)
   where
     go : (a b : Bool) → differs a (a && b) ≡ (a && not b)
     go true b = refl
     go false b = refl
 
+pub has-without : (s : RoleSet) (less role : ℕ) → less < 128 → hasRole (withoutOf s less) role ≡ (hasRole s role && not (eqb less role))
+unfolding withoutOf
+has-without s less role fits = has-apart s (singleOf less) role ∙ ap (λ (b : Bool). hasRole s role && not b) (has-single less role fits)
+
 pub without-old : {role : ℕ} (s : RoleSet) (less : ℕ) → role ∈ withoutOf s less → role ∈ s
 unfolding withoutOf
-without-old {role} s less h = record { found = and-eq-true-iff (hasRole s role) (not (hasRole (singleOf less) role)) .0 (sym (has-without s (singleOf less) role) ∙ h .found) .0 }
+without-old {role} s less h = record { found = and-eq-true-iff (hasRole s role) (not (hasRole (singleOf less) role)) .0 (sym (has-apart s (singleOf less) role) ∙ h .found) .0 }
 
 pub without-gone : (s : RoleSet) (less : ℕ) → less ∈ withoutOf s less → ⊥
 unfolding withoutOf
 without-gone s less h =
     let own = single-own (below (without-old s less h)) in
-    false≢true (sym (ap not (own .found)) ∙ and-eq-true-iff (hasRole s less) (not (hasRole (singleOf less) less)) .0 (sym (has-without s (singleOf less) less) ∙ h .found) .1)
+    false≢true (sym (ap not (own .found)) ∙ and-eq-true-iff (hasRole s less) (not (hasRole (singleOf less) less)) .0 (sym (has-apart s (singleOf less) less) ∙ h .found) .1)
 
 pub without-other : {role : ℕ} {s : RoleSet} (less : ℕ) → role ∈ s → (role ≡ less → ⊥) → role ∈ withoutOf s less
 unfolding withoutOf
 without-other {role} {s} less h other = record {
-  found = has-without s (singleOf less) role ∙ ap₂ (λ (a b : Bool). a && not b) (h .found) (absent-test (λ g. other (single-only g)));
+  found = has-apart s (singleOf less) role ∙ ap₂ (λ (a b : Bool). a && not b) (h .found) (absent-test (λ g. other (single-only g)));
 }
 
 -- ---- sets with the same members; inclusion and sharing, as the program tests them
@@ -339,6 +344,10 @@ pub union-self : (s : RoleSet) → unionOf s s ≡ s
 unfolding unionOf
 union-self s = λ i. record { low = or-self (s .low) i; high = or-self (s .high) i }
 
+pub union-empty : (s : RoleSet) → unionOf s emptySet ≡ s
+unfolding unionOf emptySet
+union-empty s = λ i. record { low = or-zero-r (s .low) i; high = or-zero-r (s .high) i }
+
 -- ---- the count is the number of members
 
 pub size-members : {s : RoleSet} → Sized s → sizeOf s ≡ tally 128 (hasRole s)
@@ -347,3 +356,66 @@ size-members {s} sized = ap₂ _+_ (ones-tally 64 (s .low) (sized .low)) (ones-t
     ∙ ap₂ _+_ (tally-same 64 (bit (s .low)) (hasRole s) (λ k h. sym (has-low s k h)))
     (tally-same 64 (bit (s .high)) (λ k. hasRole s (64 + k)) (λ k h. sym (has-high s k h)))
     ∙ sym (tally-join 64 64 (hasRole s))
+
+-- a role less is one member less
+pub tally-without : (s : RoleSet) (role : ℕ) → hasRole s role ≡ true → suc (tally 128 (hasRole (withoutOf s role))) ≡ tally 128 (hasRole s)
+tally-without s role held =
+    let fits : role < 128 = below (record { found = held }) in
+    tally-less 128 (hasRole s) (hasRole (withoutOf s role)) role fits held (absent-test (without-gone s role)) (λ other ne. same other fits (ne-eqb role other (λ e. ne (sym e))))
+  where
+    same : (other : ℕ) → role < 128 → eqb role other ≡ false → hasRole (withoutOf s role) other ≡ hasRole s other
+    same other fits e = has-without s role other fits ∙ ap (λ (b : Bool). hasRole s other && not b) e ∙ and-true (hasRole s other)
+
+-- ---- the lowest role
+
+lowest-low : (s : RoleSet) → trailingZeros 64 (s .low) < 64 → lowestRole s ≡ trailingZeros 64 (s .low)
+unfolding lowestRole
+lowest-low s h = rw (lt-ltb (trailingZeros 64 (s .low)) 64 h)
+
+lowest-high : (s : RoleSet) → 64 ≤ trailingZeros 64 (s .low) → lowestRole s ≡ 64 + trailingZeros 64 (s .high)
+unfolding lowestRole
+lowest-high s h = rw (le-ltb (trailingZeros 64 (s .low)) 64 h)
+
+-- in the low word, or in the high word above a low word without roles
+data Lowest (s : RoleSet) : ℕ → Type 0 where
+  low : trailingZeros 64 (s .low) < 64 → Lowest s (trailingZeros 64 (s .low))
+  high : 64 ≤ trailingZeros 64 (s .low) → Lowest s (64 + trailingZeros 64 (s .high))
+
+lowest-place : (s : RoleSet) → Lowest s (lowestRole s)
+lowest-place s = go (decLt (trailingZeros 64 (s .low)) 64)
+  where
+    go : Dec (trailingZeros 64 (s .low) < 64) → Lowest s (lowestRole s)
+    go (yes h) = subst⁻¹ (Lowest s) (lowest-low s h) (low h)
+    go (no h) = subst⁻¹ (Lowest s) (lowest-high s (omega arith)) (high (omega arith))
+
+pub lowest-most : (s : RoleSet) → lowestRole s ≤ 128
+lowest-most s = go (lowest-place s)
+  where
+    go : {r : ℕ} → Lowest s r → r ≤ 128
+    go (low h) = omega arith
+    go (high h) = omega (arith, trailing-le 64 (s .high))
+
+pub lowest-has : (s : RoleSet) → lowestRole s < 128 → hasRole s (lowestRole s) ≡ true
+lowest-has s fits = go (lowest-place s) fits
+  where
+    go : {r : ℕ} → Lowest s r → r < 128 → hasRole s r ≡ true
+    go (low h) f = has-low s (trailingZeros 64 (s .low)) h ∙ trailing-set 64 (s .low) h
+    go (high h) f = has-high s (trailingZeros 64 (s .high)) (omega arith) ∙ trailing-set 64 (s .high) (omega arith)
+
+-- no role is below the lowest
+pub lowest-least : (s : RoleSet) (role : ℕ) → role < lowestRole s → hasRole s role ≡ false
+lowest-least s role under = go (lowest-place s) (place role) under
+  where
+    go : {r q : ℕ} → Lowest s r → Place q → q < r → hasRole s q ≡ false
+    go l (nowhere k f) u = has-nowhere s k f
+    go (low h) (low k f) u = has-low s k f ∙ trailing-clear 64 (s .low) k u
+    go (low h) (high k f) u = absurd (omega arith)
+    go (high h) (low k f) u = has-low s k f ∙ trailing-clear 64 (s .low) k (omega arith)
+    go (high h) (high k f) u = has-high s k f ∙ trailing-clear 64 (s .high) k (omega arith)
+
+pub lowest-none : (s : RoleSet) → 128 ≤ lowestRole s → (role : ℕ) → hasRole s role ≡ false
+lowest-none s h role = go (decLt role 128)
+  where
+    go : Dec (role < 128) → hasRole s role ≡ false
+    go (yes f) = lowest-least s role (omega arith)
+    go (no f) = has-nowhere s role (omega arith)

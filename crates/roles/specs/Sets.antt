@@ -2,7 +2,7 @@
 use Prim.Native.Nat.{ℕ, _+_, _-_, _/_, _%_, _^_}
 use mathlib.Core.Bool.{Bool, true, false, cond, not, _&&_}
 use lib.Bits.{bitAnd, bitOr, bitXor}
-use lib.Count.{ones}
+use lib.Count.{ones, trailingZeros}
 use lib.Dec.{ltb, eqb}
 use Rattle.roles.specs.declared.RoleSet.{RoleSet}
 
@@ -40,9 +40,14 @@ withOf s role = unionOf s (singleOf role)
 unfoldable pub lessOf : RoleSet → RoleSet → RoleSet
 lessOf s t = record { low = bitXor (s .low) (t .low); high = bitXor (s .high) (t .high) }
 
+-- the roles of the first that are not in the second
+unfoldable pub apartOf : RoleSet → RoleSet → RoleSet
+apartOf s t = lessOf s (meetOf s t)
+
 -- one role less
 unfoldable pub withoutOf : RoleSet → ℕ → RoleSet
-withoutOf s role = lessOf s (meetOf s (singleOf role))
+unfolding apartOf
+withoutOf s role = apartOf s (singleOf role)
 
 -- the two sets are the same
 unfoldable pub sameSet : RoleSet → RoleSet → Bool
@@ -59,3 +64,9 @@ includes s t = sameSet (meetOf t s) t
 -- how many roles
 unfoldable pub sizeOf : RoleSet → ℕ
 sizeOf s = ones (s .low) + ones (s .high)
+
+-- the lowest role; 128 where there is none
+unfoldable pub lowestRole : RoleSet → ℕ
+lowestRole s =
+    let low = trailingZeros 64 (s .low) in
+    cond (ltb low 64) low (64 + trailingZeros 64 (s .high))

@@ -6,7 +6,7 @@ use mathlib.Core.Logic.{_⊎_, inl, inr}
 use borrow.Author.Tests.{eqb-true, eq-eqb, ne-eqb}
 use lib.Arith.{digits-mod, lt-one, bin-ind}
 use lib.Bits.{bitAnd, bitOr, bitXor, differ, and-step, or-step, xor-step, and-shr, or-shr, xor-shr}
-use lib.Count.{ones, ones-step}
+use lib.Count.{ones, ones-step, trailingZeros, under}
 use native.Mathlib.Decide.{decLt}
 use lib.Dec.{eqb, lit<}
 use lib.Pow.{pow-add, pow-lt, pow-pos, shr-shr, shr-lt, shl-shr}
@@ -138,6 +138,28 @@ same-bits (suc n) a b ha hb same =
     let lower = same-digit (a % 2) (b % 2) (mod-lt a (lit< tt)) (mod-lt b (lit< tt)) (sym (bit-first a) ∙ same 0 (omega arith) ∙ bit-first b) in
     sym (div-add-mod' a 2) ∙ ap₂ (λ (x y : ℕ). x * 2 + y) upper lower ∙ div-add-mod' b 2
 
+-- of the n lowest digits, the one above the trailing zeros is set, where they are not all zeros, and none below it is
+pub trailing-set : (n a : ℕ) → trailingZeros n a < n → bit a (trailingZeros n a) ≡ true
+unfolding trailingZeros
+trailing-set zero a h = absurd (omega arith)
+trailing-set (suc n) a h = go (a % 2) refl (mod-lt a (lit< tt)) (trailing-set n (a / 2)) h
+  where
+    go : (d : ℕ) → a % 2 ≡ d → d < 2 → (trailingZeros n (a / 2) < n → bit (a / 2) (trailingZeros n (a / 2)) ≡ true)
+        → under d (trailingZeros n (a / 2)) < suc n → bit a (under d (trailingZeros n (a / 2))) ≡ true
+    go zero e f rest g = bit-suc a (trailingZeros n (a / 2)) ∙ rest (omega arith)
+    go (suc zero) e f rest g = bit-first a ∙ ap (λ (x : ℕ). eqb x 1) e
+    go (suc (suc d)) e f rest g = absurd (omega arith)
+
+pub trailing-clear : (n a k : ℕ) → k < trailingZeros n a → bit a k ≡ false
+unfolding trailingZeros
+trailing-clear zero a k h = absurd (omega arith)
+trailing-clear (suc n) a k h = go (a % 2) k refl (trailing-clear n (a / 2)) h
+  where
+    go : (d j : ℕ) → a % 2 ≡ d → ((i : ℕ) → i < trailingZeros n (a / 2) → bit (a / 2) i ≡ false) → j < under d (trailingZeros n (a / 2)) → bit a j ≡ false
+    go zero zero e rest g = bit-first a ∙ ap (λ (x : ℕ). eqb x 1) e
+    go zero (suc j) e rest g = bit-suc a j ∙ rest j (omega arith)
+    go (suc d) j e rest g = absurd (omega arith)
+
 -- how many of the numbers below n pass the test
 unfoldable pub tally : ℕ → (ℕ → Bool) → ℕ
 tally zero test = 0
@@ -170,6 +192,18 @@ tally-same zero test test′ same = refl
 tally-same (suc n) test test′ same =
     ap₂ (λ (b : Bool) (x : ℕ). cond b 1 0 + x) (same 0 (omega arith))
     (tally-same n (λ k. test (suc k)) (λ k. test′ (suc k)) (λ k h. same (suc k) (omega arith)))
+
+-- a test that one number fewer passes
+pub tally-less : (n : ℕ) (test less : ℕ → Bool) (k : ℕ) → k < n → test k ≡ true → less k ≡ false → ((j : ℕ) → (j ≡ k → ⊥) → less j ≡ test j)
+    → suc (tally n less) ≡ tally n test
+unfolding tally
+tally-less zero test less k h passes fails others = absurd (omega arith)
+tally-less (suc n) test less zero h passes fails others =
+    let rest = tally-same n (λ j. less (suc j)) (λ j. test (suc j)) (λ j g. others (suc j) (λ e. absurd (omega arith))) in
+    rw (passes, fails) (omega (arith, rest))
+tally-less (suc n) test less (suc k) h passes fails others =
+    let rest = tally-less n (λ j. test (suc j)) (λ j. less (suc j)) k (omega arith) passes fails (λ j ne. others (suc j) (λ e. ne (omega arith))) in
+    rw (others 0 (λ e. absurd (omega arith))) (omega (arith, rest))
 
 -- a number below n that passes the test, or none does
 pub search-below : (n : ℕ) (test : ℕ → Bool) → ((k : ℕ) × (test k ≡ true)) ⊎ ((k : ℕ) → k < n → test k ≡ false)

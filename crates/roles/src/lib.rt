@@ -1,6 +1,6 @@
 // A set of at most 128 roles in two 64-bit words: masks for union, meeting and inclusion, a shift for one role.
 ghost use mathlib.Core.Path.{_≡_};
-ghost use Rattle.roles.specs.Sets.{emptySet, singleOf, unionOf, meetOf, withOf, withoutOf, hasRole, sharesRole, includes, sameSet, sizeOf};
+ghost use Rattle.roles.specs.Sets.{emptySet, singleOf, unionOf, meetOf, withOf, apartOf, withoutOf, hasRole, sharesRole, includes, sameSet, sizeOf, lowestRole};
 
 // Bit r of `low` is role r, bit r of `high` is role 64 + r.
 pub struct RoleSet {
@@ -75,15 +75,22 @@ impl RoleSet {
         self.union(RoleSet::single(role))
     }
 
-    // The set without one role.
-    pub fn without(self, role: usize) -> Self
-        ensures { λ r. ⌜ r ≡ withoutOf self role ⌝ }
+    // The roles of this set that are not in the other.
+    pub fn less(self, other: RoleSet) -> Self
+        ensures { λ r. ⌜ r ≡ apartOf self other ⌝ }
     {
-        let taken = self.meet(RoleSet::single(role));
+        let taken = self.meet(other);
         RoleSet {
             low: self.low ^ taken.low,
             high: self.high ^ taken.high,
         }
+    }
+
+    // The set without one role.
+    pub fn without(self, role: usize) -> Self
+        ensures { λ r. ⌜ r ≡ withoutOf self role ⌝ }
+    {
+        self.less(RoleSet::single(role))
     }
 
     // Whether both sets are equal.
@@ -112,5 +119,16 @@ impl RoleSet {
         ensures { λ r. ⌜ r ≡ sizeOf self ⌝ }
     {
         u64::count_ones(self.low) + u64::count_ones(self.high)
+    }
+
+    // The lowest role of the set; 128 where it has none.
+    pub fn lowest(self) -> usize
+        ensures { λ r. ⌜ r ≡ lowestRole self ⌝ }
+    {
+        let low = u64::trailing_zeros(self.low) as usize;
+        if low < 64 {
+            return low;
+        }
+        64 + u64::trailing_zeros(self.high) as usize
     }
 }

@@ -1,5 +1,4 @@
 -- Tests joined, and tests of sets: each is true exactly when what it stands for holds.
-use Prim.Native.Nat.{ℕ, _<_}
 use mathlib.Core.Bool.{Bool, true, false, not, _&&_, _||_, false≢true, and-eq-true-iff}
 use mathlib.Core.Logic.{_↔_, _⊎_, inl, inr, ⊎-elim}
 use mathlib.Core.Path.{_≡_, refl}
@@ -7,7 +6,6 @@ use Rattle.roles.specs.declared.RoleSet.{RoleSet}
 use Rattle.roles.specs.Sets.{sharesRole, includes}
 use Rattle.roles.specs.Members.{Share, Within, Sized, includes-within, within-includes, shares-share, share-shares}
 use Rattle.model.specs.Policy.{_⊑_}
-use Rattle.rules.specs.Below.{everyBelow, every-below}
 use Rattle.rules.specs.Tests.{implies}
 
 -- where the first holds, the second does
@@ -32,13 +30,6 @@ both-exact a b one two = (
 pub not-exact : (a : Bool) {A : Type 0} → a ≡ true ↔ A → not a ≡ true ↔ (A → ⊥)
 not-exact true one = (λ e x. false≢true e, λ none. absurd (none (one .0 refl)))
 not-exact false one = (λ e x. false≢true (one .1 x), λ none. refl)
-
--- each number below that passes the first test passes the second
-pub each-exact : (n : ℕ) (a b : ℕ → Bool) → everyBelow n (λ k. implies (a k) (b k)) ≡ true ↔ ((k : ℕ) → k < n → a k ≡ true → b k ≡ true)
-each-exact n a b = (
-  λ test k lt. implies-exact (a k) (b k) .0 (every-below n _ .0 test k lt),
-  λ each. every-below n _ .1 (λ k lt. implies-exact (a k) (b k) .1 (each k lt)),
-)
 
 -- a label is at most another
 pub label-exact : (a b : Bool) → implies a b ≡ true ↔ (a ⊑ b)

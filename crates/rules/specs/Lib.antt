@@ -1,5 +1,4 @@
 -- The typing rules as tests, and that each test is exact.
-pub mod Below
 pub mod Tests
 pub mod Joined
 pub mod Exact

@@ -1,160 +1,104 @@
-// Each typing rule as a test: a person, an assign rule, a revoke rule, a goal.
+// Each typing rule as a test of what a typing's sheet says: a person, an assign rule, a revoke rule, a goal.
+ghost use mathlib.Core.List.{List};
 ghost use mathlib.Core.Path.{_≡_};
-ghost use Prim.Native.Nat.{min};
-ghost use Rattle.model.specs.Meaning.{meaning};
-ghost use Rattle.rules.specs.Tests.{typeOf, inconsistentRole, roleSuits, personPasses, holdsHigh, unopposedTarget, unneededTarget, targetSuits, assignPasses, revokePasses, goalPasses};
+ghost use Prim.Native.Nat.{ℕ};
+ghost use Rattle.roles.specs.declared.RoleSet.{RoleSet as Set};
+ghost use Rattle.sheets.specs.Words.{saidIn};
+ghost use Rattle.rules.specs.Tests.{inconsistentRole, personPasses, targetSuits, assignPasses, revokePasses, goalPasses};
 use closing::Pair;
+use closing::close;
 use model::Assign;
 use model::Person;
 use model::Revoke;
-use model::Typing;
 use roles::RoleSet;
-
-// What a typing says of one role.
-struct RoleType {
-    label: bool,
-    plus: RoleSet,
-    minus: RoleSet,
-}
-
-// What the typing says of a role; a number above 127 is no role, and has L and the empty sets.
-fn type_of(typing: Typing, role: usize) -> RoleType
-    ensures { λ r. ⌜ r ≡ typeOf (meaning typing) role ⌝ }
-{
-    if role < 128 {
-        let label = typing.labels[role];
-        let plus = typing.plus[role];
-        let minus = typing.minus[role];
-        return RoleType { label, plus, minus };
-    }
-    RoleType {
-        label: false,
-        plus: RoleSet::empty(),
-        minus: RoleSet::empty(),
-    }
-}
+use sheets::set_of;
+use sheets::sets_of;
 
 // Whether the role's plus set and minus set share a role.
-fn inconsistent(typing: Typing, role: usize) -> bool
-    ensures { λ r. ⌜ r ≡ inconsistentRole (meaning typing) role ⌝ }
+fn inconsistent<'a>(plus: &'a [u64; 256], minus: &'a [u64; 256], role: usize) -> bool
+    ensures { λ r. ⌜ ((needed opposed : List ℕ) (high : Set) → r ≡ inconsistentRole (saidIn (now (plus .entry)) (now (minus .entry)) needed opposed high) role) ⌝ }
 {
-    let said = type_of(typing, role);
-    said.plus.shares(said.minus)
-}
-
-// Whether a person may hold a role of this type.
-fn role_suits(said: RoleType, person: Person) -> bool
-    ensures { λ r. ⌜ r ≡ roleSuits said person ⌝ }
-{
-    (!said.label | person.clearance)
-        & !said.minus.shares(person.roles)
-        & said.plus.within(person.roles)
+    set_of(plus, role).shares(set_of(minus, role))
 }
 
 // Whether a person's holdings pass.
-pub fn person_passes(typing: Typing, roles: usize, person: Person) -> bool
-    ensures { λ r. ⌜ r ≡ personPasses typing roles person ⌝ }
+pub fn person_passes<'a>(
+    plus: &'a [u64; 256],
+    minus: &'a [u64; 256],
+    high: RoleSet,
+    person: Person,
+) -> bool
+    ensures { λ r. ⌜ ((needed opposed : List ℕ) → r ≡ personPasses (saidIn (now (plus .entry)) (now (minus .entry)) needed opposed high) person) ⌝ }
 {
-    let count = closing::limited(roles);
-    let mut all = true;
-    let mut role = 0;
-    while role < count {
-        let label = typing.labels[role];
-        let plus = typing.plus[role];
-        let minus = typing.minus[role];
-        let said = RoleType { label, plus, minus };
-        all = all & (!person.roles.has(role) | role_suits(said, person));
-        role += 1;
-    }
-    all
-}
-
-// Whether a role of the set is labelled H.
-fn holds_high(typing: Typing, roles: usize, set: RoleSet) -> bool
-    ensures { λ r. ⌜ r ≡ holdsHigh typing roles set ⌝ }
-{
-    let count = closing::limited(roles);
-    let mut found = false;
-    let mut role = 0;
-    while role < count {
-        let high = typing.labels[role];
-        let held = set.has(role);
-        found = found | (held & high);
-        role += 1;
-    }
-    found
-}
-
-// Whether no role outside `absent` has the target in its minus set.
-fn unopposed(typing: Typing, roles: usize, target: usize, absent: RoleSet) -> bool
-    ensures { λ r. ⌜ r ≡ unopposedTarget typing roles target absent ⌝ }
-{
-    let count = closing::limited(roles);
-    let mut all = true;
-    let mut role = 0;
-    while role < count {
-        let minus = typing.minus[role];
-        all = all & (!minus.has(target) | absent.has(role));
-        role += 1;
-    }
-    all
-}
-
-// Whether no role other than the target has the target in its plus set.
-fn unneeded(typing: Typing, roles: usize, target: usize) -> bool
-    ensures { λ r. ⌜ r ≡ unneededTarget typing roles target ⌝ }
-{
-    let count = closing::limited(roles);
-    let mut all = true;
-    let mut role = 0;
-    while role < count {
-        let plus = typing.plus[role];
-        all = all & (!plus.has(target) | (role == target));
-        role += 1;
-    }
-    all
+    let roles = person.roles;
+    (!high.shares(roles) | person.clearance)
+        & !sets_of(minus, roles).shares(roles)
+        & sets_of(plus, roles).within(roles)
 }
 
 // Whether the target role suits every user who holds all that is held and nothing that is absent.
-fn target_suits(typing: Typing, roles: usize, pair: Pair, target: usize) -> bool
-    ensures { λ r. ⌜ r ≡ targetSuits typing roles pair target ⌝ }
+fn target_suits<'a>(
+    plus: &'a [u64; 256],
+    minus: &'a [u64; 256],
+    opposed: &'a [u64; 256],
+    high: RoleSet,
+    pair: Pair,
+    target: usize,
+) -> bool
+    ensures { λ r. ⌜ ((needed : List ℕ) → r ≡ targetSuits (saidIn (now (plus .entry)) (now (minus .entry)) needed (now (opposed .entry)) high) pair target) ⌝ }
 {
-    let said = type_of(typing, target);
     let held = pair.held;
     let absent = pair.absent;
-    let others = absent.without(target);
-    let label = !said.label | holds_high(typing, roles, held);
-    let unopposed = unopposed(typing, roles, target, absent);
-    let minus = said.minus.within(others);
-    let plus = said.plus.within(held.with(target));
-    label & unopposed & minus & plus
+    (!high.has(target) | high.shares(held))
+        & set_of(opposed, target).within(absent)
+        & set_of(minus, target).within(absent.without(target))
+        & set_of(plus, target).within(held.with(target))
 }
 
 // Whether an assign rule passes.
-pub fn assign_passes(typing: Typing, roles: usize, rule: Assign) -> bool
-    ensures { λ r. ⌜ r ≡ assignPasses typing roles rule ⌝ }
+pub fn assign_passes<'a>(
+    plus: &'a [u64; 256],
+    minus: &'a [u64; 256],
+    needed: &'a [u64; 256],
+    opposed: &'a [u64; 256],
+    high: RoleSet,
+    rule: Assign,
+) -> bool
+    ensures { λ r. ⌜ r ≡ assignPasses (saidIn (now (plus .entry)) (now (minus .entry)) (now (needed .entry)) (now (opposed .entry)) high) rule ⌝ }
 {
-    if inconsistent(typing, rule.admin) {
+    if inconsistent(plus, minus, rule.admin) {
         return true;
     }
     let held = rule.positive;
     let absent = rule.negative.with(rule.target);
-    let pair = closing::close(typing, roles, Pair { held, absent });
-    pair.held.shares(pair.absent) | target_suits(typing, roles, pair, rule.target)
+    let pair = close(plus, minus, needed, Pair { held, absent });
+    pair.held.shares(pair.absent) | target_suits(plus, minus, opposed, high, pair, rule.target)
 }
 
 // Whether a revoke rule passes.
-pub fn revoke_passes(typing: Typing, roles: usize, rule: Revoke) -> bool
-    ensures { λ r. ⌜ r ≡ revokePasses typing roles rule ⌝ }
+pub fn revoke_passes<'a>(
+    plus: &'a [u64; 256],
+    minus: &'a [u64; 256],
+    needed: &'a [u64; 256],
+    rule: Revoke,
+) -> bool
+    ensures { λ r. ⌜ ((opposed : List ℕ) (high : Set) → r ≡ revokePasses (saidIn (now (plus .entry)) (now (minus .entry)) (now (needed .entry)) opposed high) rule) ⌝ }
 {
-    inconsistent(typing, rule.admin) | unneeded(typing, roles, rule.target)
+    let target = rule.target;
+    inconsistent(plus, minus, rule.admin) | set_of(needed, target).within(RoleSet::single(target))
 }
 
 // Whether a goal passes.
-pub fn goal_passes(typing: Typing, roles: usize, goal: RoleSet) -> bool
-    ensures { λ r. ⌜ r ≡ goalPasses typing roles goal ⌝ }
+pub fn goal_passes<'a>(
+    plus: &'a [u64; 256],
+    minus: &'a [u64; 256],
+    needed: &'a [u64; 256],
+    high: RoleSet,
+    goal: RoleSet,
+) -> bool
+    ensures { λ r. ⌜ ((opposed : List ℕ) → r ≡ goalPasses (saidIn (now (plus .entry)) (now (minus .entry)) (now (needed .entry)) opposed high) goal) ⌝ }
 {
     let absent = RoleSet::empty();
-    let pair = closing::close(typing, roles, Pair { held: goal, absent });
-    holds_high(typing, roles, pair.held) | pair.held.shares(pair.absent)
+    let pair = close(plus, minus, needed, Pair { held: goal, absent });
+    high.shares(pair.held) | pair.held.shares(pair.absent)
 }

@@ -7,16 +7,15 @@ use mathlib.Core.Path.{subst⁻¹}
 use Rattle.roles.specs.declared.RoleSet.{RoleSet}
 use Rattle.roles.specs.Sets.{emptySet, withOf}
 use Rattle.roles.specs.Members.{Sized, empty-sized}
-use Rattle.closing.specs.Rounds.{addIf}
-use Rattle.closing.specs.Adding.{single-sized, add-sized}
+use Rattle.sheets.specs.Members.{union-sized, single-sized}
 use Rattle.text.specs.declared.Name.{Name}
 use Rattle.text.specs.Forms.{namesOf}
 use Rattle.reading.specs.Fields.{placed, rolesFrom, rolesOf}
 
 -- a set with one role more
 pub with-sized : {s : RoleSet} (role : ℕ) → Sized s → Sized (withOf s role)
-unfolding withOf addIf
-with-sized role sized = add-sized true (single-sized role) sized
+unfolding withOf
+with-sized role sized = union-sized sized (single-sized role)
 
 -- a set with the roles of names
 from-sized : (names : List Name) (s : RoleSet) (fields : List (List ℕ)) → Sized s → Sized (rolesFrom names s fields)

@@ -1,13 +1,14 @@
--- `close` takes one round after another; the invariant: the closure is what the rounds left over give of the present pair.
+-- `close` takes one round after another; the invariant: the roles of the pair before are gone through, and the closure is what the
+-- rounds left over give of the present pair.
 use Prim.Native.Nat.{ℕ, suc, _+_, _-_, _≤_, _<_}
 use borrow.Author.Needs.{needs}
 use mathlib.Core.Path.{_≡_, refl, sym, _∙_}
 use mathlib.Core.Bool.{true, false}
 use native.Mathlib.Omega.{arith}
-use Rattle.model.specs.declared.Typing.{Typing as Table}
 use Rattle.closing.specs.declared.Pair.{Pair}
-use Rattle.closing.specs.Rounds.{roundOf, samePair, roundsOf, closeOf}
+use Rattle.closing.specs.Rounds.{Links, linksIn, roundOf, samePair, roundsOf, closeOf}
 use Rattle.closing.specs.Steps.{rounds-stop, rounds-go-on}
+use Rattle.closing.specs.Fresh.{freshRound, nobody, Passed, passed-start, fresh-round, passed-round}
 use Rattle.closing.proofs.close.Statement.{statement}
 use Rattle.closing.proofs.close.Tie as tie
 
@@ -15,23 +16,39 @@ use Rattle.closing.proofs.close.Tie as tie
 left-over : (most : ℕ) → most < 256 → 256 - most ≡ suc (256 - (most + 1))
 left-over most below = omega arith
 
--- what the present pair and its round say of the closure
-module _ (typing : Table) (roles : ℕ) (pair now next : Pair) (changes : ℕ) (below : changes < 256) (so-far : closeOf typing roles pair ≡ roundsOf (256 - changes) typing roles now) (round : next ≡ roundOf typing roles now) where
-  stops : samePair now next ≡ true → closeOf typing roles pair ≡ now
-  stops e = so-far ∙ rw (left-over changes below) (rounds-stop (256 - (changes + 1)) typing roles now (rw round at e))
+-- After so many rounds.
+record Reached (links : Links) (pair before now : Pair) (changes : ℕ) : Type 0 where
+  most : changes ≤ 256
+  passed : Passed links before now
+  left : closeOf links pair ≡ roundsOf (256 - changes) links now
 
-  goes-on : samePair now next ≡ false → closeOf typing roles pair ≡ roundsOf (256 - (changes + 1)) typing roles next
-  goes-on e = so-far ∙ rw (left-over changes below, round) (rounds-go-on (256 - (changes + 1)) typing roles now (rw round at e))
+-- what the present pair and its round say of the closure
+module _ (links : Links) {pair before now next : Pair} {changes : ℕ} (so-far : Reached links pair before now changes) (below : changes < 256) (round : next ≡ freshRound links before now) where
+  whole : next ≡ roundOf links now
+  whole = round ∙ fresh-round links before now (so-far .passed)
+
+  stops : samePair now next ≡ true → now ≡ closeOf links pair
+  stops e = sym (so-far .left ∙ rw (left-over changes below) (rounds-stop (256 - (changes + 1)) links now (rw whole at e)))
+
+  goes-on : samePair now next ≡ false → Reached links pair now next (changes + 1)
+  goes-on e = record {
+    most = omega arith;
+    passed = rw whole (passed-round links now);
+    left = so-far .left ∙ rw (left-over changes below, whole) (rounds-go-on (256 - (changes + 1)) links now (rw whole at e));
+  }
 
 abbrev Inv-loop : tie.InvT-loop
-Inv-loop typing roles now₀ changes₀ now changes = (changes ≤ 256) × (closeOf typing roles now₀ ≡ roundsOf (256 - changes) typing roles now)
+Inv-loop plus minus needed before₀ now₀ changes₀ before now changes = Reached (linksIn plus minus needed) now₀ before now changes
 
 abbrev μ-loop : tie.MeasureT-loop
-μ-loop typing roles now₀ changes₀ now changes = 256 - changes
+μ-loop plus minus needed before₀ now₀ changes₀ before now changes = 256 - changes
+
+empty-requires : tie.Need-empty-requires Inv-loop μ-loop
+empty-requires c κs = search needs
 
 loop-holds : tie.Need-loop-holds Inv-loop μ-loop
-unfolding closeOf
-loop-holds c = (omega arith, refl)
+unfolding closeOf nobody
+loop-holds c = record { most = omega arith; passed = rw (c .empty .ensures) (passed-start _ _); left = refl }
 
 round-requires : tie.Need-round-requires Inv-loop μ-loop
 round-requires c κs = search needs
@@ -42,8 +59,7 @@ same-requires c κs = search needs
 returns : tie.Need-returns Inv-loop μ-loop
 returns c =
     let head = c .before .before .before .before in
-    sym (stops _ _ _ (head .loop .now) (c .before .before .round .result) (head .loop .changes) (omega arith) (head .loop .inv .1) (c .before .before .round .ensures)
-    (sym (c .before .same .ensures) ∙ c .if1 .taken))
+    stops _ (head .loop .inv) (omega arith) (c .before .before .round .ensures) (sym (c .before .same .ensures) ∙ c .if1 .taken)
 
 add-changes : tie.Need-add-changes Inv-loop μ-loop
 add-changes c = omega arith
@@ -53,17 +69,14 @@ loop-less c = omega arith
 
 loop-again : tie.Need-loop-again Inv-loop μ-loop
 loop-again c =
-    let head = c .before .before .before .before in (
-      omega arith,
-      goes-on _ _ _ (head .loop .now) (c .before .before .round .result) (head .loop .changes) (omega arith) (head .loop .inv .1) (c .before .before .round .ensures)
-          (sym (c .before .same .ensures) ∙ c .if1 .left),
-    )
+    let head = c .before .before .before .before in
+    goes-on _ (head .loop .inv) (omega arith) (c .before .before .round .ensures) (sym (c .before .same .ensures) ∙ c .if1 .left)
 
 returns-2 : tie.Need-returns-2 Inv-loop μ-loop
 unfolding roundsOf
 returns-2 c =
     let none : 256 - c .before .loop .changes ≡ 0 = omega arith in
-    sym (rw none at (c .before .loop .inv .1))
+    sym (rw none at (c .before .loop .inv .left))
 
 pub close-spec : {M : Type 1} → statement M
 close-spec =
@@ -71,6 +84,7 @@ close-spec =
     (tie.spec
     Inv-loop
     μ-loop
+    empty-requires
     loop-holds
     round-requires
     same-requires

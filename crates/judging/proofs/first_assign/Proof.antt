@@ -1,50 +1,43 @@
--- `first_assign` goes through the assign rules that are counted; the invariant: the answer is that of the rules still to come.
-use Prim.Native.Nat.{ℕ, _-_}
+-- `first_assign` goes through the assign rules that are counted; the invariant: the answer is that of those still to come.
+use Prim.Native.Nat.{_-_, min}
 use borrow.Author.Needs.{needs}
-use mathlib.Core.Path.{_≡_, sym, ap}
-use lib.ListN.{length, take, length-map}
+use lib.ListN.{take}
 use native.Mathlib.Omega.{arith}
+use Rattle.sheets.specs.Words.{saidIn}
 use Rattle.rules.specs.Tests.{assignPasses}
-use Rattle.judging.specs.Verdict.{firstFailing, subjectIn, firstAssign}
-use Rattle.judging.specs.First.{Turned, turned-start, turned-fails, turned-passes, turned-end}
+use Rattle.judging.specs.Verdict.{firstFailing}
+use Rattle.judging.specs.First.{Looked, looked-start, looked-fails, looked-passes, looked-end}
 use Rattle.judging.proofs.first_assign.Statement.{statement}
 use Rattle.judging.proofs.first_assign.Tie as tie
 
 abbrev Inv-loop : tie.InvT-loop
-Inv-loop t p roles count assign₀ assign = Turned (assignPasses t roles) (p .assigns) count (firstAssign (subjectIn p) t) assign
+Inv-loop count plus minus needed opposed high assigns end number₀ number = Looked (assignPasses (saidIn plus minus needed opposed high)) assigns end (firstFailing (assignPasses (saidIn plus minus needed opposed high)) (take (min count 256) assigns)) number
 
 abbrev μ-loop : tie.MeasureT-loop
-μ-loop t p roles count assign₀ assign = count - assign
+μ-loop count plus minus needed opposed high assigns end number₀ number = end - number
 
 smaller-requires : tie.Need-smaller-requires Inv-loop μ-loop
 smaller-requires c κs = search needs
 
 loop-holds : tie.Need-loop-holds Inv-loop μ-loop
-unfolding subjectIn firstAssign
-loop-holds c =
-    let start = c .before in
-    let long : length (start .args .t1 .assigns) ≡ 256 = simp length-map at (start .good .0 .1 .1 .1 .1 .1 .0 .1 .0 .1) in
-    turned-start (omega (arith, c .smaller .ensures)) (ap (λ (k : ℕ). firstFailing (assignPasses (start .args .t) (start .args .t1 .counts .roles)) (take k (start .args .t1 .assigns))) (sym (c .smaller .ensures)))
+loop-holds c = looked-start (c .smaller .ensures) (omega (arith, c .before .good .0 .1 .0 .1, c .smaller .ensures))
 
-mul-rule : tie.Need-mul-rule Inv-loop μ-loop
-mul-rule c = omega arith
+mul-next : tie.Need-mul-next Inv-loop μ-loop
+mul-next c = omega arith
 
-element-copy-out-rule : tie.Need-element-copy-out-rule Inv-loop μ-loop
-element-copy-out-rule c = omega arith
+array-copy-out-next : tie.Need-array-copy-out-next Inv-loop μ-loop
+array-copy-out-next c = omega arith
+
+add-number : tie.Need-add-number Inv-loop μ-loop
+add-number c = omega arith
 
 assign-passes-requires : tie.Need-assign-passes-requires Inv-loop μ-loop
 assign-passes-requires c κs = search needs
 
-add-result : tie.Need-add-result Inv-loop μ-loop
-add-result c = omega arith
-
 returns : tie.Need-returns Inv-loop μ-loop
 returns c =
     let head = c .before .before .before .before in
-    turned-fails (head .loop .inv) (c .before .before .before .loop-test .taken) _ (c .before .assign-passes .ensures) (c .if1 .taken)
-
-add-assign : tie.Need-add-assign Inv-loop μ-loop
-add-assign c = omega arith
+    looked-fails (head .loop .inv) (c .before .before .before .loop-test .taken) _ (c .before .assign-passes .ensures) (c .if1 .taken)
 
 loop-less : tie.Need-loop-less Inv-loop μ-loop
 loop-less c = omega arith
@@ -52,10 +45,10 @@ loop-less c = omega arith
 loop-again : tie.Need-loop-again Inv-loop μ-loop
 loop-again c =
     let head = c .before .before .before .before in
-    turned-passes (head .loop .inv) (c .before .before .before .loop-test .taken) _ (c .before .assign-passes .ensures) (c .if1 .left)
+    looked-passes (head .loop .inv) (c .before .before .before .loop-test .taken) _ (c .before .assign-passes .ensures) (c .if1 .left)
 
 returns-2 : tie.Need-returns-2 Inv-loop μ-loop
-returns-2 c = turned-end (c .before .loop .inv) (c .loop-test .left)
+returns-2 c = looked-end (c .before .loop .inv) (c .loop-test .left)
 
 pub first-assign-spec : {M : Type 1} → statement M
 first-assign-spec =
@@ -65,12 +58,11 @@ first-assign-spec =
     μ-loop
     smaller-requires
     loop-holds
-    mul-rule
-    element-copy-out-rule
+    mul-next
+    array-copy-out-next
+    add-number
     assign-passes-requires
-    add-result
     returns
-    add-assign
     loop-less
     loop-again
     returns-2)

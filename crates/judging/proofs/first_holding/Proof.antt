@@ -1,61 +1,55 @@
--- `first_holding` goes through the users that are counted; the invariant: the answer is that of the users still to come.
-use Prim.Native.Nat.{ℕ, _-_}
+-- `first_holding` goes through the users that are counted; the invariant: the answer is that of those still to come.
+use Prim.Native.Nat.{ℕ, _-_, min}
 use borrow.Author.Needs.{needs}
-use mathlib.Core.Path.{_≡_, sym, ap}
-use lib.ListN.{length, take, length-map}
+use mathlib.Core.List.{List}
+use lib.ListN.{take}
 use native.Mathlib.Omega.{arith}
+use Rattle.sheets.specs.Words.{saidIn}
 use Rattle.rules.specs.Tests.{personPasses}
-use Rattle.judging.specs.Verdict.{firstFailing, subjectIn, firstHolding}
-use Rattle.judging.specs.First.{Turned, turned-start, turned-fails, turned-passes, turned-end}
+use Rattle.judging.specs.Verdict.{firstFailing}
+use Rattle.judging.specs.First.{Looked, looked-start, looked-fails, looked-passes, looked-end}
 use Rattle.judging.proofs.first_holding.Statement.{statement}
 use Rattle.judging.proofs.first_holding.Tie as tie
 
 abbrev Inv-loop : tie.InvT-loop
-Inv-loop t p roles count user₀ user = Turned (personPasses t roles) (p .persons) count (firstHolding (subjectIn p) t) user
+Inv-loop count plus minus high persons end number₀ number = (needed opposed : List ℕ) → Looked (personPasses (saidIn plus minus needed opposed high)) persons end (firstFailing (personPasses (saidIn plus minus needed opposed high)) (take (min count 64) persons)) number
 
 abbrev μ-loop : tie.MeasureT-loop
-μ-loop t p roles count user₀ user = count - user
+μ-loop count plus minus high persons end number₀ number = end - number
 
 smaller-requires : tie.Need-smaller-requires Inv-loop μ-loop
 smaller-requires c κs = search needs
 
 loop-holds : tie.Need-loop-holds Inv-loop μ-loop
-unfolding subjectIn firstHolding
-loop-holds c =
-    let start = c .before in
-    let long : length (start .args .t1 .persons) ≡ 64 = simp length-map at (start .good .0 .1 .1 .1 .1 .0 .1 .0 .1) in
-    turned-start (omega (arith, c .smaller .ensures)) (ap (λ (k : ℕ). firstFailing (personPasses (start .args .t) (start .args .t1 .counts .roles)) (take k (start .args .t1 .persons))) (sym (c .smaller .ensures)))
+loop-holds c needed opposed = looked-start (c .smaller .ensures) (omega (arith, c .before .good .0 .1 .0 .1, c .smaller .ensures))
 
-mul-person : tie.Need-mul-person Inv-loop μ-loop
-mul-person c = omega arith
+mul-next : tie.Need-mul-next Inv-loop μ-loop
+mul-next c = omega arith
 
-element-copy-out-person : tie.Need-element-copy-out-person Inv-loop μ-loop
-element-copy-out-person c = omega arith
+array-copy-out-next : tie.Need-array-copy-out-next Inv-loop μ-loop
+array-copy-out-next c = omega arith
+
+add-number : tie.Need-add-number Inv-loop μ-loop
+add-number c = omega arith
 
 person-passes-requires : tie.Need-person-passes-requires Inv-loop μ-loop
 person-passes-requires c κs = search needs
 
-add-result : tie.Need-add-result Inv-loop μ-loop
-add-result c = omega arith
-
 returns : tie.Need-returns Inv-loop μ-loop
-returns c =
+returns c needed opposed =
     let head = c .before .before .before .before in
-    turned-fails (head .loop .inv) (c .before .before .before .loop-test .taken) _ (c .before .person-passes .ensures) (c .if1 .taken)
-
-add-user : tie.Need-add-user Inv-loop μ-loop
-add-user c = omega arith
+    looked-fails (head .loop .inv needed opposed) (c .before .before .before .loop-test .taken) _ (c .before .person-passes .ensures needed opposed) (c .if1 .taken)
 
 loop-less : tie.Need-loop-less Inv-loop μ-loop
 loop-less c = omega arith
 
 loop-again : tie.Need-loop-again Inv-loop μ-loop
-loop-again c =
+loop-again c needed opposed =
     let head = c .before .before .before .before in
-    turned-passes (head .loop .inv) (c .before .before .before .loop-test .taken) _ (c .before .person-passes .ensures) (c .if1 .left)
+    looked-passes (head .loop .inv needed opposed) (c .before .before .before .loop-test .taken) _ (c .before .person-passes .ensures needed opposed) (c .if1 .left)
 
 returns-2 : tie.Need-returns-2 Inv-loop μ-loop
-returns-2 c = turned-end (c .before .loop .inv) (c .loop-test .left)
+returns-2 c needed opposed = looked-end (c .before .loop .inv needed opposed) (c .loop-test .left)
 
 pub first-holding-spec : {M : Type 1} → statement M
 first-holding-spec =
@@ -65,12 +59,11 @@ first-holding-spec =
     μ-loop
     smaller-requires
     loop-holds
-    mul-person
-    element-copy-out-person
+    mul-next
+    array-copy-out-next
+    add-number
     person-passes-requires
-    add-result
     returns
-    add-user
     loop-less
     loop-again
     returns-2)

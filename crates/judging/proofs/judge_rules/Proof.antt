@@ -1,53 +1,22 @@
--- `judge_rules` takes the verdict on the assign rules, and where it is accepted that on the revoke rules.
+-- `judge_rules` lays the typing out and takes the verdict by its sheet.
 use borrow.Author.Needs.{needs}
 use mathlib.Core.Path.{ap, _∙_}
-use Rattle.judging.specs.declared.Part.{Part}
-use Rattle.judging.specs.Verdict.{failingPart, judgedRules}
-use Rattle.judging.specs.Order.{then-stops, then-goes}
+use Rattle.sheets.specs.Words.{turnedIn}
+use Rattle.judging.specs.Verdict.{subjectIn, rulesSaid, judgedRules}
 use Rattle.judging.proofs.judge_rules.Statement.{statement}
 use Rattle.judging.proofs.judge_rules.Tie as tie
 
-first-assign-requires : tie.Need-first-assign-requires
-first-assign-requires c κs = search needs
+lay-out-requires : tie.Need-lay-out-requires
+lay-out-requires c κs = search needs
 
-failing-requires : tie.Need-failing-requires
-failing-requires c κs = search needs
-
-enum-told : tie.Need-enum-told
-enum-told c = search needs
-
-enum-told-2 : tie.Need-enum-told-2
-enum-told-2 c = search needs
+rules-verdict-requires : tie.Need-rules-verdict-requires
+rules-verdict-requires c κs = search needs
 
 returns : tie.Need-returns
-unfolding judgedRules
+unfolding judgedRules subjectIn turnedIn
 returns c =
-    let judged = c .before .before in
-    then-stops _ (c .enum-told2 .given .1) (judged .failing .ensures ∙ ap (failingPart Part.Assign) (judged .before .first-assign .ensures))
-
-first-revoke-requires : tie.Need-first-revoke-requires
-first-revoke-requires c κs = search needs
-
-failing-requires-2 : tie.Need-failing-requires-2
-failing-requires-2 c κs = search needs
-
-returns-2 : tie.Need-returns-2
-unfolding judgedRules
-returns-2 c =
-    let told = c .before .before in
-    let judged = told .before .before in
-    then-goes (told .enum-told .given .1) (judged .failing .ensures ∙ ap (failingPart Part.Assign) (judged .before .first-assign .ensures))
-    (c .failing2 .ensures ∙ ap (failingPart Part.Revoke) (c .before .first-revoke .ensures))
+    let laid = c .before .before .before .before .before .before .before in
+    c .rules-verdict .ensures ∙ ap (rulesSaid (subjectIn (laid .before .args .p))) (laid .lay-out .ensures)
 
 pub judge-rules-spec : {M : Type 1} → statement M
-judge-rules-spec =
-    tie.close
-    (tie.spec
-    first-assign-requires
-    failing-requires
-    enum-told
-    enum-told-2
-    returns
-    first-revoke-requires
-    failing-requires-2
-    returns-2)
+judge-rules-spec = tie.close (tie.spec lay-out-requires rules-verdict-requires returns)

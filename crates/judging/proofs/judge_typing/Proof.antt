@@ -1,11 +1,25 @@
 -- `judge_typing` takes the verdict on the holdings, where it is accepted that on the rules, and where it is accepted that on the goals.
 use borrow.Author.Needs.{needs}
-use mathlib.Core.Path.{ap, _∙_}
+use mathlib.Core.Path.{_≡_, ap, _∙_}
+use Rattle.model.specs.declared.Typing.{Typing as Table}
+use Rattle.sheets.specs.declared.Sheet.{Sheet}
+use Rattle.sheets.specs.Turned.{turnedOf}
+use Rattle.sheets.specs.Words.{saidIn, turnedIn}
+use Rattle.reading.specs.declared.policy.Policy.{Policy}
 use Rattle.judging.specs.declared.Part.{Part}
-use Rattle.judging.specs.Verdict.{failingPart, judgedTyping}
+use Rattle.judging.specs.declared.TypingVerdict.{TypingVerdict}
+use Rattle.judging.specs.Verdict.{subjectIn, firstHolding, firstGoal, failingPart, allSaid, judgedTyping}
 use Rattle.judging.specs.Order.{then-stops, then-goes}
 use Rattle.judging.proofs.judge_typing.Statement.{statement}
 use Rattle.judging.proofs.judge_typing.Tie as tie
+
+-- the verdict by the sheet is that of the typing
+by-sheet : (p : Policy) (t : Table) (sheet : Sheet) {verdict : TypingVerdict} → turnedIn sheet ≡ turnedOf t (p .counts .roles) → verdict ≡ allSaid (subjectIn p) (turnedIn sheet) → verdict ≡ judgedTyping (subjectIn p) t
+unfolding judgedTyping subjectIn
+by-sheet p t sheet same is = is ∙ ap (allSaid (subjectIn p)) same
+
+lay-out-requires : tie.Need-lay-out-requires
+lay-out-requires c κs = search needs
 
 first-holding-requires : tie.Need-first-holding-requires
 first-holding-requires c κs = search needs
@@ -20,13 +34,16 @@ enum-told-2 : tie.Need-enum-told-2
 enum-told-2 c = search needs
 
 returns : tie.Need-returns
-unfolding judgedTyping
+unfolding allSaid firstHolding subjectIn turnedIn
 returns c =
     let judged = c .before .before in
-    then-stops _ (c .enum-told2 .given .1) (judged .failing .ensures ∙ ap (failingPart Part.Holdings) (judged .before .first-holding .ensures))
+    let laid = judged .before .before .before .before .before .before .before .before in
+    let sheet = laid .lay-out .result in
+    by-sheet (laid .before .args .p) (laid .before .args .t) sheet (laid .lay-out .ensures)
+    (then-stops _ (c .enum-told2 .given .1) (judged .failing .ensures ∙ ap (failingPart Part.Holdings) (judged .before .first-holding .ensures (sheet .needed) (sheet .opposed))))
 
-judge-rules-requires : tie.Need-judge-rules-requires
-judge-rules-requires c κs = search needs
+rules-verdict-requires : tie.Need-rules-verdict-requires
+rules-verdict-requires c κs = search needs
 
 enum-told-3 : tie.Need-enum-told-3
 enum-told-3 c = search needs
@@ -35,13 +52,16 @@ enum-told-4 : tie.Need-enum-told-4
 enum-told-4 c = search needs
 
 returns-2 : tie.Need-returns-2
-unfolding judgedTyping
+unfolding allSaid firstHolding subjectIn turnedIn
 returns-2 c =
     let rules = c .before .before in
-    let told = rules .before in
+    let told = rules .before .before .before .before .before .before in
     let judged = told .before .before in
-    then-goes (told .enum-told .given .1) (judged .failing .ensures ∙ ap (failingPart Part.Holdings) (judged .before .first-holding .ensures))
-    (then-stops _ (c .enum-told4 .given .1) (rules .judge-rules .ensures))
+    let laid = judged .before .before .before .before .before .before .before .before in
+    let sheet = laid .lay-out .result in
+    by-sheet (laid .before .args .p) (laid .before .args .t) sheet (laid .lay-out .ensures)
+    (then-goes (told .enum-told .given .1) (judged .failing .ensures ∙ ap (failingPart Part.Holdings) (judged .before .first-holding .ensures (sheet .needed) (sheet .opposed)))
+    (then-stops _ (c .enum-told4 .given .1) (rules .rules-verdict .ensures)))
 
 first-goal-requires : tie.Need-first-goal-requires
 first-goal-requires c κs = search needs
@@ -50,25 +70,29 @@ failing-requires-2 : tie.Need-failing-requires-2
 failing-requires-2 c κs = search needs
 
 returns-3 : tie.Need-returns-3
-unfolding judgedTyping
+unfolding allSaid firstHolding firstGoal subjectIn turnedIn
 returns-3 c =
-    let passed = c .before .before in
+    let passed = c .before .before .before .before .before .before in
     let rules = passed .before .before in
-    let told = rules .before in
+    let told = rules .before .before .before .before .before .before in
     let judged = told .before .before in
-    then-goes (told .enum-told .given .1) (judged .failing .ensures ∙ ap (failingPart Part.Holdings) (judged .before .first-holding .ensures))
-    (then-goes (passed .enum-told3 .given .1) (rules .judge-rules .ensures) (c .failing2 .ensures ∙ ap (failingPart Part.Goal) (c .before .first-goal .ensures)))
+    let laid = judged .before .before .before .before .before .before .before .before in
+    let sheet = laid .lay-out .result in
+    by-sheet (laid .before .args .p) (laid .before .args .t) sheet (laid .lay-out .ensures)
+    (then-goes (told .enum-told .given .1) (judged .failing .ensures ∙ ap (failingPart Part.Holdings) (judged .before .first-holding .ensures (sheet .needed) (sheet .opposed)))
+    (then-goes (passed .enum-told3 .given .1) (rules .rules-verdict .ensures) (c .failing2 .ensures ∙ ap (failingPart Part.Goal) (c .before .first-goal .ensures (sheet .opposed)))))
 
 pub judge-typing-spec : {M : Type 1} → statement M
 judge-typing-spec =
     tie.close
     (tie.spec
+    lay-out-requires
     first-holding-requires
     failing-requires
     enum-told
     enum-told-2
     returns
-    judge-rules-requires
+    rules-verdict-requires
     enum-told-3
     enum-told-4
     returns-2

@@ -1,6 +1,8 @@
--- `goal_passes` tests the closure of the goal, by what its callees promise.
+-- `goal_passes` closes the goal and looks for a label H or a clash, by what its callees promise.
 use borrow.Author.Needs.{needs}
-use Rattle.rules.specs.Tests.{goalPasses}
+use Rattle.sheets.specs.Words.{saidIn}
+use Rattle.closing.specs.Rounds.{linksOf, linksIn}
+use Rattle.rules.specs.Tests.{holdsHigh, goalPasses}
 use Rattle.rules.proofs.goal_passes.Statement.{statement}
 use Rattle.rules.proofs.goal_passes.Tie as tie
 
@@ -10,16 +12,16 @@ empty-requires c κs = search needs
 close-requires : tie.Need-close-requires
 close-requires c κs = search needs
 
-holds-high-requires : tie.Need-holds-high-requires
-holds-high-requires c κs = search needs
-
 shares-requires : tie.Need-shares-requires
 shares-requires c κs = search needs
 
+shares-requires-2 : tie.Need-shares-requires-2
+shares-requires-2 c κs = search needs
+
 returns : tie.Need-returns
-unfolding goalPasses
-returns c = cc
+unfolding goalPasses holdsHigh saidIn linksOf linksIn
+returns c opposed = cc
 
 pub goal-passes-spec : {M : Type 1} → statement M
 goal-passes-spec =
-    tie.close (tie.spec empty-requires close-requires holds-high-requires shares-requires returns)
+    tie.close (tie.spec empty-requires close-requires shares-requires shares-requires-2 returns)

@@ -1,8 +1,8 @@
 -- `add_if` goes by its test.
 use borrow.Author.Needs.{needs}
-use Rattle.closing.specs.Rounds.{addIf}
-use Rattle.closing.proofs.add_if.Statement.{statement}
-use Rattle.closing.proofs.add_if.Tie as tie
+use Rattle.sheets.specs.Turned.{addIf}
+use Rattle.sheets.proofs.add_if.Statement.{statement}
+use Rattle.sheets.proofs.add_if.Tie as tie
 
 union-requires : tie.Need-union-requires
 union-requires c κs = search needs
