@@ -16,7 +16,7 @@ mod stack;
 mod texts;
 
 use reference::{Answer, Merge};
-use texts::{full, halves, trace, Closing, Input};
+use texts::{full, halves, read_only, trace, Closing, Input};
 
 /// A time is the median of at least this many calls.
 const CALLS: usize = 9;
@@ -231,7 +231,13 @@ fn main() {
     let mut lent = Lent::new();
 
     let desk = Input::new("the desk", &[&read(folder, "desk.policy"), &read(folder, "t1.typing")]);
-    let check = [desk, full(128, Closing::OneRound), full(128, Closing::ManyRounds), trace(2_000)];
+    let check = [
+        desk,
+        read_only(128),
+        full(128, Closing::OneRound),
+        full(128, Closing::ManyRounds),
+        trace(2_000),
+    ];
     let merge = [halves(128, Closing::OneRound), halves(128, Closing::ManyRounds)];
     let hostile: Vec<Input> = HOSTILE
         .iter()

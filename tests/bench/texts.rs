@@ -92,6 +92,16 @@ pub fn full(roles: usize, closing: Closing) -> Input {
     Input::new(&name, &[&policy.text(), &policy.typing_text(&typing(roles, closing))])
 }
 
+/// A full policy whose last line is `END`: it is read whole and refused there, so nothing is judged.
+pub fn read_only(roles: usize) -> Input {
+    let mut input = full(roles, Closing::OneRound);
+    let policy = &mut input.texts[0];
+    let last = policy.len() - b"end\n".len();
+    policy[last..].copy_from_slice(b"END\n");
+    input.name = format!("{} roles, only read: refused at the last line", roles);
+    input
+}
+
 /// Two policies of one ground with half of the rules and goals each.
 pub fn halves(roles: usize, closing: Closing) -> Input {
     let mut policy = ground(roles);
