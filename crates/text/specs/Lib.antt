@@ -2,4 +2,5 @@
 pub mod Pieces
 pub mod Repeats
 pub mod Forms
+pub mod Eights
 pub mod Names

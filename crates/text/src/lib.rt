@@ -3,6 +3,7 @@ ghost use mathlib.Core.Path.{_≡_};
 ghost use Prim.Native.Nat.{_+_, _*_, _≤_, _<_};
 ghost use lib.ListN.{length, take, drop};
 ghost use Rattle.text.specs.Forms.{isName, isLabel, nameByte, numberOf, bytes};
+ghost use Rattle.text.specs.Eights.{eightClear};
 ghost use Rattle.text.specs.Names.{value, packed, sameName, placeOf, rowOf, rows, stored};
 ghost use Rattle.text.specs.Pieces.{sameBytes, Sought};
 
@@ -14,12 +15,34 @@ pub struct Name {
     pub fourth: u64,
 }
 
+// Whether eight bytes stand from a place on, none of them the mark.
+fn clear(s: &[u8], at: usize, mark: u8) -> bool
+    requires { ⌜ at ≤ length (now s) ⌝ }
+    ensures { λ r. ⌜ r ≡ eightClear mark (drop at (now (s .entry))) ⌝ }
+{
+    if s.len() - at < 8 {
+        return false;
+    }
+    (s[at] != mark)
+        & (s[at + 1] != mark)
+        & (s[at + 2] != mark)
+        & (s[at + 3] != mark)
+        & (s[at + 4] != mark)
+        & (s[at + 5] != mark)
+        & (s[at + 6] != mark)
+        & (s[at + 7] != mark)
+}
+
 // The place of the first `mark` from a place on, or the end where there is none.
 pub fn seek(s: &[u8], from: usize, mark: u8) -> usize
     requires { ⌜ from ≤ length (now s) ⌝ }
     ensures { λ r. ⌜ Sought (now (s .entry)) from mark r ⌝ }
 {
-    bytes::scan::find(s, from, s.len(), mark)
+    let mut at = from;
+    while clear(s, at, mark) {
+        at += 8;
+    }
+    bytes::scan::find(s, at, s.len(), mark)
 }
 
 // Whether two byte strings are the same.
