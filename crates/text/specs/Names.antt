@@ -5,12 +5,14 @@ use mathlib.Core.List.{List, [], _∷_, _++_}
 use mathlib.Core.Path.{_≡_, refl, sym, ap, ap₂, _∙_}
 use borrow.Author.Tests.{leb-true, eqb-true}
 use lib.Dec.{eqb, leb, lit≤}
-use lib.ListN.{length, getD, set, take, drop, drop-of-length-le, take-append-drop}
-use lib.Seq.{drop-cons, drop-drop}
-use native.Mathlib.Nat.{add-zero, pow-suc, pow-le-pow-right}
+use lib.ListN.{length, getD, set, take, drop, drop-of-length-le, length-drop, take-append-drop}
+use lib.Pow.{pow-add}
+use lib.Seq.{drop-cons, drop-drop, getD-drop, take-all}
+use native.Mathlib.Nat.{add-zero, zero-add, add-mul-div-left, div-div-eq-div-mul, div-eq-of-lt, div-one, pow-suc, pow-le-pow-right, zero-div}
 use native.Mathlib.Numerals.{add-one}
 use native.Mathlib.Omega.{arith}
 use Rattle.text.specs.declared.Name.{Name}
+use Rattle.text.specs.Eights.{eight-bytes}
 use Rattle.text.specs.Forms.{every, nameByte, isName, name-byte-range, every-take, every-drop}
 
 -- bytes as one number, the first byte lowest
@@ -77,6 +79,33 @@ word-next s n i some most same =
     let on : suc (i - 1) ≡ i = omega arith in
     let here : i - 1 < length s = omega arith in
     sym (value-next s (i - 1) here ∙ ap (λ (k : ℕ). value (drop k s) * 256 + getD s (i - 1) 0) on ∙ ap (λ (v : ℕ). v * 256 + getD s (i - 1) 0) (sym same))
+
+-- ---- packing eight bytes at once
+
+pub value-eight : (s : List ℕ) (at : ℕ) → at + 8 ≤ length s
+    → getD s at 0 + 256 * getD s (at + 1) 0 + 65536 * getD s (at + 2) 0 + 16777216 * getD s (at + 3) 0 + 4294967296 * getD s (at + 4) 0 + 1099511627776 * getD s (at + 5) 0 + 281474976710656 * getD s (at + 6) 0 + 72057594037927936 * getD s (at + 7) 0
+    ≡ value (take 8 (drop at s))
+unfolding value
+value-eight s at h = rw (eight-bytes s at h) (omega arith)
+
+-- a number without its lowest bytes is that of the other bytes
+value-shifted : (n : ℕ) (s : List ℕ) → ((i : ℕ) → getD s i 0 < 256) → value s / 2 ^ (8 * n) ≡ value (drop n s)
+unfolding value
+value-shifted zero s small = div-one (value s)
+value-shifted (suc n) [] small = zero-div (2 ^ (8 * suc n))
+value-shifted (suc n) (byte ∷ s) small =
+    let wide : 8 * suc n ≡ 8 + 8 * n = omega arith in
+    let first : (byte + 256 * value s) / 256 ≡ value s = add-mul-div-left byte (value s) (lit≤ tt) ∙ ap (λ (k : ℕ). k + value s) (div-eq-of-lt (small 0)) ∙ zero-add (value s) in
+    rw (wide, pow-add 2 8 (8 * n), ← div-div-eq-div-mul (byte + 256 * value s) 256 (2 ^ (8 * n)), first)
+    (value-shifted n s (λ i. small (suc i)))
+
+-- the last bytes of a field that has eight, by those eight
+pub value-last : (s : List ℕ) (at : ℕ) → ((i : ℕ) → getD s i 0 < 256) → 8 ≤ length s → length s < at + 8 → at < length s
+    → value (take 8 (drop (length s - 8) s)) / 2 ^ (8 * (at + 8 - length s)) ≡ value (take 8 (drop at s))
+value-last s at small some last here =
+    let start : length s - 8 + (at + 8 - length s) ≡ at = omega arith in
+    rw (take-all 8 (drop (length s - 8) s) (omega (arith, length-drop (length s - 8) s)), take-all 8 (drop at s) (omega (arith, length-drop at s)))
+    (value-shifted (at + 8 - length s) (drop (length s - 8) s) (λ i. rw getD-drop (small (length s - 8 + i))) ∙ ap value (drop-drop (at + 8 - length s) (length s - 8) s ∙ ap (λ (k : ℕ). drop k s) start))
 
 -- ---- going through a table one name at a time
 

@@ -132,18 +132,53 @@ fn word(part: &[u8]) -> u64
     n
 }
 
+// Eight bytes as one number, the first lowest.
+fn joined(a: u8, b: u8, c: u8, d: u8, e: u8, f: u8, g: u8, h: u8) -> u64
+    ensures { λ r. ⌜ r ≡ a + 256 * b + 65536 * c + 16777216 * d + 4294967296 * e + 1099511627776 * f + 281474976710656 * g + 72057594037927936 * h ⌝ }
+{
+    a as u64
+        + 256 * (b as u64)
+        + 65536 * (c as u64)
+        + 16777216 * (d as u64)
+        + 4294967296 * (e as u64)
+        + 1099511627776 * (f as u64)
+        + 281474976710656 * (g as u64)
+        + 72057594037927936 * (h as u64)
+}
+
+// The eight bytes from a place on as one number.
+fn eight(field: &[u8], at: usize) -> u64
+    requires { ⌜ at + 8 ≤ length (now field) ⌝ }
+    ensures { λ r. ⌜ r ≡ value (take 8 (drop at (now (field .entry)))) ⌝ }
+{
+    joined(
+        field[at],
+        field[at + 1],
+        field[at + 2],
+        field[at + 3],
+        field[at + 4],
+        field[at + 5],
+        field[at + 6],
+        field[at + 7],
+    )
+}
+
 // The eight bytes from a place on as one number, fewer where the field ends before.
 fn word_at(field: &[u8], at: usize) -> u64
     requires { ⌜ at ≤ 24 ⌝ }
     ensures { λ r. ⌜ r ≡ value (take 8 (drop at (now (field .entry)))) ⌝ }
 {
-    if field.len() <= at {
+    let end = field.len();
+    if end <= at {
         return 0;
     }
-    if field.len() - at <= 8 {
-        return word(&field[at..]);
+    if at + 8 <= end {
+        return eight(field, at);
     }
-    word(&field[at..at + 8])
+    if 8 <= end {
+        return eight(field, end - 8) >> (8 * (at + 8 - end));
+    }
+    word(&field[at..])
 }
 
 // A field packed into words; a name loses nothing.

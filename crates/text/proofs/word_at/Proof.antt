@@ -1,19 +1,11 @@
--- `word_at` packs the bytes from a place on: none, the rest, or eight of them.
-use Prim.Native.Nat.{_-_, _≤_}
-use Prim.Native.Nat.{_-_}
-use Prim.Native.Nat.{_≤_}
+-- `word_at` packs the bytes from a place on: none, eight of them, the last of eight, or the rest.
+use Prim.Native.Nat.{ℕ, _+_, _-_, _*_, _/_, _^_, _≤_}
 use borrow.Author.Needs.{needs}
 use lib.ListN.{length, drop, drop-of-length-le, length-drop}
-use lib.ListN.{length, drop, take, drop-of-length-le, length-drop}
-use lib.ListN.{length, drop}
-use lib.Seq.{take-all, take-nil}
 use lib.Seq.{take-all}
 use mathlib.Core.Path.{_≡_, sym, _∙_, ap}
-use mathlib.Core.Path.{_≡_, sym, _∙_, refl, ap}
-use mathlib.Core.Path.{_≡_, sym, _∙_, refl}
-use native.Mathlib.Nat.{add-sub-cancel-left}
 use native.Mathlib.Omega.{arith}
-use Rattle.text.specs.Names.{value}
+use Rattle.text.specs.Names.{value, value-last}
 use Rattle.text.specs.Pieces.{part-rest}
 use Rattle.text.proofs.word_at.Statement.{statement}
 use Rattle.text.proofs.word_at.Tie as tie
@@ -22,8 +14,32 @@ returns : tie.Need-returns
 unfolding value
 returns c = rw (drop-of-length-le _ (c .if1 .taken))
 
-sub-if2 : tie.Need-sub-if2
-sub-if2 c = search needs
+add-if2 : tie.Need-add-if2
+add-if2 c = search needs
+
+eight-requires : tie.Need-eight-requires
+eight-requires c κs = search needs
+
+returns-2 : tie.Need-returns-2
+returns-2 c = search needs
+
+eight-requires-2 : tie.Need-eight-requires-2
+eight-requires-2 c κs = search needs
+
+add-result : tie.Need-add-result
+add-result c = search needs
+
+sub-result : tie.Need-sub-result
+sub-result c = search needs
+
+mul-result : tie.Need-mul-result
+mul-result c = search needs
+
+shr-result : tie.Need-shr-result
+shr-result c = search needs
+
+returns-3 : tie.Need-returns-3
+returns-3 c = ap (λ (n : ℕ). n / 2 ^ (8 * (c .before .before .before .before .before .args .at + 8 - length (c .before .before .before .before .before .args .field .now)))) (c .eight2 .ensures) ∙ value-last (c .before .before .before .before .before .args .field .now) (c .before .before .before .before .before .args .at) (λ i. omega (arith, c .before .before .before .before .shared-slice-known .given i)) (c .before .if3 .taken) (c .before .before .if2 .left) (c .before .before .before .if1 .left)
 
 sub-word : tie.Need-sub-word
 sub-word c = search needs
@@ -37,41 +53,25 @@ part-word-end c = search needs
 word-requires : tie.Need-word-requires
 word-requires c κs = search needs
 
-returns-2 : tie.Need-returns-2
-returns-2 c = let few : length (drop (c .before .before .before .before .before .args .at) (c .before .before .before .before .before .args .field .now)) ≤ 8 = omega (arith, length-drop (c .before .before .before .before .before .args .at) (c .before .before .before .before .before .args .field .now), c .before .before .if2 .taken) in c .word .ensures ∙ ap value (part-rest (c .before .before .before .before .before .args .at) (c .before .before .before .before .before .args .field .now) ∙ sym (take-all 8 _ few))
-
-add-word : tie.Need-add-word
-add-word c = search needs
-
-sub-word-2 : tie.Need-sub-word-2
-sub-word-2 c = search needs
-
-part-word-start-2 : tie.Need-part-word-start-2
-part-word-start-2 c = search needs
-
-part-word-end-2 : tie.Need-part-word-end-2
-part-word-end-2 c = search needs
-
-word-requires-2 : tie.Need-word-requires-2
-word-requires-2 c κs = search needs
-
-returns-3 : tie.Need-returns-3
-returns-3 c = c .word2 .ensures ∙ ap value (rw (add-sub-cancel-left (c .before .before .before .before .before .args .at) 8))
+returns-4 : tie.Need-returns-4
+returns-4 c = let few : length (drop (c .before .before .before .before .before .before .args .at) (c .before .before .before .before .before .before .args .field .now)) ≤ 8 = omega (arith, length-drop (c .before .before .before .before .before .before .args .at) (c .before .before .before .before .before .before .args .field .now)) in c .word .ensures ∙ ap value (part-rest (c .before .before .before .before .before .before .args .at) (c .before .before .before .before .before .before .args .field .now) ∙ sym (take-all 8 _ few))
 
 pub word-at-spec : {M : Type 1} → statement M
 word-at-spec =
     tie.close
     (tie.spec
     returns
-    sub-if2
+    add-if2
+    eight-requires
+    returns-2
+    eight-requires-2
+    add-result
+    sub-result
+    mul-result
+    shr-result
+    returns-3
     sub-word
     part-word-start
     part-word-end
     word-requires
-    returns-2
-    add-word
-    sub-word-2
-    part-word-start-2
-    part-word-end-2
-    word-requires-2
-    returns-3)
+    returns-4)
