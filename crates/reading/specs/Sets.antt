@@ -11,7 +11,7 @@ use Rattle.roles.specs.declared.RoleSet.{RoleSet}
 use Rattle.roles.specs.Sets.{hasRole, emptySet, withOf}
 use Rattle.roles.specs.Members.{has-empty, has-with}
 use Rattle.text.specs.declared.Name.{Name}
-use Rattle.text.specs.Forms.{bytes, every, isName, isSet, namesOf}
+use Rattle.text.specs.Forms.{bytes, every, every-more, isName, isSet, namesOf}
 use Rattle.text.specs.Names.{packed, sameName, placeOf, packed-one-to-one, place-one-to-one}
 use Rattle.text.specs.Pieces.{split, sameBytes, among, repeated, same-equal, equal-same, Sought, sought-none, sought-some, part-rest}
 use Rattle.text.specs.Repeats.{still-single, now-repeated}
@@ -51,15 +51,6 @@ role-among names few p form known roles (q ∷ done) forms knowns =
     place-below ns h x k = omega (arith, ltb-true (placed ns x) (length ns) k)
 
 -- ---- names before a name, and a name more
-
-every-more : (test : List ℕ → Bool) (done more : List (List ℕ)) → every test (done ++ more) ≡ (every test done && every test more)
-unfolding every
-every-more test [] more = refl
-every-more test (q ∷ done) more = ap (λ (b : Bool). test q && b) (every-more test done more) ∙ sym (group (test q) (every test done) (every test more))
-  where
-    group : (a b c : Bool) → ((a && b) && c) ≡ (a && (b && c))
-    group true b c = refl
-    group false b c = refl
 
 roles-more : (names : List Name) (roles : RoleSet) (done more : List (List ℕ)) → rolesFrom names roles (done ++ more) ≡ rolesFrom names (rolesFrom names roles done) more
 unfolding rolesFrom

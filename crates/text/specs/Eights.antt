@@ -1,15 +1,15 @@
 -- Eight bytes at a time: what a test of all eight says of a search, of a form and of a word.
 use Prim.Native.Nat.{ℕ, zero, suc, _+_, _-_, _≤_, _<_}
-use mathlib.Core.Bool.{Bool, true, false, not, _&&_, and-true, and-assoc, and-eq-true-iff}
+use mathlib.Core.Bool.{Bool, true, false, not, _&&_, and-true, and-assoc, and-eq-true-iff, false≢true}
 use mathlib.Core.List.{List, [], _∷_}
-use mathlib.Core.Path.{_≡_, sym, ap, _∙_}
+use mathlib.Core.Path.{_≡_, refl, sym, ap, _∙_}
 use borrow.Author.Tests.{not-true, leb-true, le-leb, lt-leb}
 use lib.Dec.{eqb, leb}
-use lib.ListN.{length, getD, take, drop, length-drop}
-use lib.Seq.{drop-cons, drop-drop}
+use lib.ListN.{length, getD, take, drop, length-drop, take-append-drop}
+use lib.Seq.{drop-cons, drop-drop, take-all}
 use native.Mathlib.Omega.{arith}
 use Rattle.bytes.specs.Bytes.{indexOf, indexAfter}
-use Rattle.text.specs.Forms.{every}
+use Rattle.text.specs.Forms.{every, every-more, every-take, every-drop}
 use Rattle.text.specs.Pieces.{Sought}
 
 -- a byte that is not the mark
@@ -72,3 +72,31 @@ clear-passing mark s at clear =
       fits = omega (arith, length-drop at s);
       back = λ place sought. record { first = omega (arith, sought .first, passed); within = sought .within };
     }
+
+-- ---- a test that goes through a byte string by eights
+
+-- what fails of a part fails of the whole
+part-fails : (whole part : Bool) → (whole ≡ true → part ≡ true) → part ≡ false → whole ≡ false
+part-fails true part all bad = absurd (false≢true (sym bad ∙ all refl))
+part-fails false part all bad = refl
+
+-- the first eight fail, or the test goes on after them
+pub eight-bad : (test : ℕ → Bool) (s : List ℕ) (at : ℕ) → every test (take 8 (drop at s)) ≡ false → every test (drop at s) ≡ false
+eight-bad test s at bad = part-fails (every test (drop at s)) (every test (take 8 (drop at s))) (every-take test 8 (drop at s)) bad
+
+pub eight-good : (test : ℕ → Bool) (s : List ℕ) (at : ℕ) → every test (take 8 (drop at s)) ≡ true → every test (drop at s) ≡ every test (drop (at + 8) s)
+eight-good test s at good =
+    ap (every test) (sym (take-append-drop 8 (drop at s)))
+    ∙ every-more test (take 8 (drop at s)) (drop 8 (drop at s))
+    ∙ ap (λ (b : Bool). b && every test (drop 8 (drop at s))) good
+    ∙ ap (every test) (drop-drop 8 at s)
+
+-- the last eight decide, where they begin no later than what is left
+pub eight-last : (test : ℕ → Bool) (s : List ℕ) (at last : ℕ) → last + 8 ≡ length s → last ≤ at → every test s ≡ every test (drop at s) → every test s ≡ every test (take 8 (drop last s))
+eight-last test s at last end begun left = rw (take-all 8 (drop last s) (omega (arith, length-drop last s))) (go (every test (drop last s)) refl)
+  where
+    go : (b : Bool) → every test (drop last s) ≡ b → every test s ≡ b
+    go true good =
+        let on : last + (at - last) ≡ at = omega arith in
+        left ∙ ap (λ (k : ℕ). every test (drop k s)) (sym on) ∙ ap (every test) (sym (drop-drop (at - last) last s)) ∙ every-drop test (at - last) (drop last s) good
+    go false bad = part-fails (every test s) (every test (drop last s)) (every-drop test last s) bad

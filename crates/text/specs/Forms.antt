@@ -2,9 +2,9 @@
 use Prim.Native.Nat.{ℕ, zero, suc, _+_, _-_, _*_, _^_, _≤_, _<_}
 use Prim.Native.Char.{Char, code}
 use Prim.Native.String.{String}
-use mathlib.Core.Bool.{Bool, true, false, cond, not, _&&_, _||_, and-false, and-eq-true-iff, false≢true}
-use mathlib.Core.List.{List, [], _∷_}
-use mathlib.Core.Path.{_≡_, refl, ap, ap₂, _∙_}
+use mathlib.Core.Bool.{Bool, true, false, cond, not, _&&_, _||_, and-assoc, and-false, and-eq-true-iff, false≢true}
+use mathlib.Core.List.{List, [], _∷_, _++_}
+use mathlib.Core.Path.{_≡_, refl, sym, ap, ap₂, _∙_}
 use borrow.Author.Tests.{lt-leb, le-leb, eq-eqb, ne-eqb, leb-true, eqb-true}
 use lib.Dec.{eqb, leb, lit≤}
 use lib.ListN.{length, getD, take, drop, drop-of-length-le}
@@ -167,6 +167,12 @@ name-byte-range byte h = go (between 65 90 byte) (between 97 122 byte) (between 
     go false false true e pb pc pd pe h = omega (arith, in-range 48 57 byte pd)
     go false false false true pb pc pd pe h = omega (arith, eqb-true byte 95 pe)
     go false false false false pb pc pd pe h = absurd (false≢true h)
+
+-- of some and of others
+pub every-more {ℓ} : {A : Type ℓ} (test : A → Bool) (s t : List A) → every test (s ++ t) ≡ (every test s && every test t)
+unfolding every
+every-more test [] t = refl
+every-more test (a ∷ s) t = ap (λ (b : Bool). test a && b) (every-more test s t) ∙ sym (and-assoc (test a) (every test s) (every test t))
 
 -- the first bytes, and the bytes after them
 pub every-take {ℓ} : {A : Type ℓ} (test : A → Bool) (n : ℕ) (s : List A) → every test s ≡ true → every test (take n s) ≡ true

@@ -2,7 +2,7 @@
 ghost use mathlib.Core.Path.{_≡_};
 ghost use Prim.Native.Nat.{_+_, _*_, _≤_, _<_};
 ghost use lib.ListN.{length, take, drop};
-ghost use Rattle.text.specs.Forms.{isName, isLabel, nameByte, numberOf, bytes};
+ghost use Rattle.text.specs.Forms.{every, isName, isLabel, nameByte, numberOf, bytes};
 ghost use Rattle.text.specs.Eights.{eightClear};
 ghost use Rattle.text.specs.Names.{value, packed, sameName, placeOf, rowOf, rows, stored};
 ghost use Rattle.text.specs.Pieces.{sameBytes, Sought};
@@ -62,16 +62,25 @@ fn in_name(byte: u8) -> bool
     capital | small | digit | (byte == b'_')
 }
 
-// Whether a field is a name.
-pub fn is_name(field: &[u8]) -> bool
-    ensures { λ r. ⌜ r ≡ isName (now (field .entry)) ⌝ }
+// Whether each of the eight bytes from a place on may stand in a name.
+fn eight_in_name(field: &[u8], at: usize) -> bool
+    requires { ⌜ at + 8 ≤ length (now field) ⌝ }
+    ensures { λ r. ⌜ r ≡ every nameByte (take 8 (drop at (now (field .entry)))) ⌝ }
 {
-    if field.len() < 1 {
-        return false;
-    }
-    if 32 < field.len() {
-        return false;
-    }
+    in_name(field[at])
+        & in_name(field[at + 1])
+        & in_name(field[at + 2])
+        & in_name(field[at + 3])
+        & in_name(field[at + 4])
+        & in_name(field[at + 5])
+        & in_name(field[at + 6])
+        & in_name(field[at + 7])
+}
+
+// Whether each byte may stand in a name, looked at one by one.
+fn few_in_name(field: &[u8]) -> bool
+    ensures { λ r. ⌜ r ≡ every nameByte (now (field .entry)) ⌝ }
+{
     let mut i = 0;
     while i < field.len() {
         if !in_name(field[i]) {
@@ -80,6 +89,31 @@ pub fn is_name(field: &[u8]) -> bool
         i += 1;
     }
     true
+}
+
+// Whether a field is a name. The last eight bytes may take in some that were looked at before.
+pub fn is_name(field: &[u8]) -> bool
+    ensures { λ r. ⌜ r ≡ isName (now (field .entry)) ⌝ }
+{
+    let end = field.len();
+    if end < 1 {
+        return false;
+    }
+    if 32 < end {
+        return false;
+    }
+    if end < 8 {
+        return few_in_name(field);
+    }
+    let last = end - 8;
+    let mut at = 0;
+    while at < last {
+        if !eight_in_name(field, at) {
+            return false;
+        }
+        at += 8;
+    }
+    eight_in_name(field, last)
 }
 
 // Whether a field is a clearance or a label.
