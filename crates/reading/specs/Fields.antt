@@ -12,6 +12,7 @@ use Rattle.roles.specs.Sets.{emptySet, withOf}
 use Rattle.text.specs.declared.Name.{Name}
 use Rattle.text.specs.Forms.{every, isName, isSet, namesOf}
 use Rattle.text.specs.Names.{packed, placeOf, rows, rows-length}
+use Rattle.text.specs.Pieces.{repeated}
 use Rattle.reading.specs.declared.fields.NameRead.{NameRead}
 use Rattle.reading.specs.declared.fields.SetRead.{SetRead}
 
@@ -50,6 +51,10 @@ setRead names field =
     let formed = isSet field in
     let declared = allDeclared names field in
     record { fault = faultOf formed declared; roles = cond (formed && declared) (rolesOf names field) emptySet }
+
+-- names that make a set: each is a name, and none stands twice
+unfoldable pub areSet : List (List ℕ) → Bool
+areSet names = every isName names && not (repeated names)
 
 -- a malformed set field
 unfoldable pub malformedSet : SetRead

@@ -13,10 +13,10 @@ use Rattle.roles.specs.Members.{has-empty, has-with}
 use Rattle.text.specs.declared.Name.{Name}
 use Rattle.text.specs.Forms.{bytes, every, every-more, isName, isSet, namesOf}
 use Rattle.text.specs.Names.{packed, sameName, placeOf, packed-one-to-one, place-one-to-one}
-use Rattle.text.specs.Pieces.{split, sameBytes, among, repeated, same-equal, equal-same, Sought, sought-none, sought-some, part-rest}
-use Rattle.text.specs.Repeats.{still-single, now-repeated}
+use Rattle.text.specs.Pieces.{split, sameBytes, among, repeated, same-equal, equal-same, Sought, sought-none, sought-some, sought-start, part-rest}
+use Rattle.text.specs.Repeats.{still-single, now-repeated, repeated-start}
 use Rattle.reading.specs.declared.fields.SetRead.{SetRead}
-use Rattle.reading.specs.Fields.{placed, isDeclared, allDeclared, rolesFrom, rolesOf, faultOf, malformedSet, undeclaredSet, setRead}
+use Rattle.reading.specs.Fields.{placed, isDeclared, allDeclared, rolesFrom, rolesOf, faultOf, areSet, malformedSet, undeclaredSet, setRead}
 
 -- ---- a name stands twice exactly where its role is in the set already
 
@@ -170,18 +170,28 @@ module _ (names : List Name) (field : List ℕ) (plain : sameBytes field (bytes 
             (ap (every (isDeclared names)) all ∙ known-more) (are-more ∙ sym (ap (rolesFrom names emptySet) all))
 
 -- a field of names that are all well formed is a set where none stands twice
-pub undeclared-malformed : (field : List ℕ) → sameBytes field (bytes "-") ≡ false → every isName (split 44 field) ≡ false → malformedSet ≡ undeclaredSet field
-unfolding malformedSet undeclaredSet isSet
+pub undeclared-malformed : (field : List ℕ) → sameBytes field (bytes "-") ≡ false → areSet (split 44 field) ≡ false → malformedSet ≡ undeclaredSet field
+unfolding malformedSet undeclaredSet isSet areSet
 undeclared-malformed field plain bad = rw (plain-names [] field plain, bad)
 
-pub undeclared-repeated : (field : List ℕ) → sameBytes field (bytes "-") ≡ false → repeated (split 44 field) ≡ true → malformedSet ≡ undeclaredSet field
-unfolding malformedSet undeclaredSet isSet
-undeclared-repeated field plain twice = rw (plain-names [] field plain, twice, and-false (every isName (split 44 field)))
+pub undeclared-set : (field : List ℕ) → sameBytes field (bytes "-") ≡ false → areSet (split 44 field) ≡ true → record { fault = 1; roles = emptySet } ≡ undeclaredSet field
+unfolding undeclaredSet isSet areSet
+undeclared-set field plain good = rw (plain-names [] field plain, good)
 
-pub undeclared-set : (field : List ℕ) → sameBytes field (bytes "-") ≡ false → every isName (split 44 field) ≡ true → repeated (split 44 field) ≡ false
-    → record { fault = 1; roles = emptySet } ≡ undeclaredSet field
-unfolding undeclaredSet isSet
-undeclared-set field plain forms single = rw (plain-names [] field plain, forms, single)
+-- names that make no set make none with more names after them
+start-malformed : (some more : List (List ℕ)) → areSet some ≡ false → areSet (some ++ more) ≡ false
+unfolding areSet
+start-malformed some more bad = rw (every-more isName some more) (go (every isName some) (repeated some) refl refl bad)
+  where
+    go : (e r : Bool) → every isName some ≡ e → repeated some ≡ r → (e && not r) ≡ false → ((every isName some && every isName more) && not (repeated (some ++ more))) ≡ false
+    go false r p q h = rw p
+    go true true p q h = rw (repeated-start some more q) (and-false (every isName some && every isName more))
+    go true false p q h = absurd (true≢false h)
+
+pub start-fails : (field : List ℕ) (from cut : ℕ) → Sought field from 44 cut → areSet (split 44 (take cut field)) ≡ false → areSet (split 44 field) ≡ false
+start-fails field from cut sought bad =
+    let start = sought-start field from 44 cut sought in
+    ap areSet (start .1) ∙ start-malformed (split 44 (take cut field)) (start .0) bad
 
 -- `-` is the empty set
 pub empty-set : (names : List Name) (field : List ℕ) → sameBytes field (bytes "-") ≡ true → record { fault = 0; roles = emptySet } ≡ setRead names field

@@ -2,11 +2,11 @@
 ghost use mathlib.Core.Path.{_≡_};
 ghost use Prim.Native.Nat.{_*_, _≤_, max};
 ghost use lib.ListN.{length};
-ghost use mathlib.Core.Bool.{false};
+ghost use mathlib.Core.Bool.{true, false};
 ghost use Rattle.text.specs.Forms.{bytes, every, isName};
 ghost use Rattle.text.specs.Names.{rows};
-ghost use Rattle.text.specs.Pieces.{split, sameBytes, repeated};
-ghost use Rattle.reading.specs.Fields.{nameRead, setRead, malformedSet, undeclaredSet};
+ghost use Rattle.text.specs.Pieces.{split, sameBytes};
+ghost use Rattle.reading.specs.Fields.{nameRead, setRead, areSet, malformedSet, undeclaredSet};
 use roles::RoleSet;
 
 // A name field: the fault, 2 malformed, 1 undeclared, 0 none, and the name's place.
@@ -70,15 +70,42 @@ fn malformed_set() -> SetRead
     }
 }
 
+// Whether the names of a field make a set: each has the form of a name, and none stands twice.
+fn are_set(field: &[u8]) -> bool
+    requires { ⌜ length (now field) ≤ 32768 ⌝ }
+    ensures { λ r. ⌜ r ≡ areSet (split 44 (now (field .entry))) ⌝ }
+{
+    if !all_names(field) {
+        return false;
+    }
+    !distinct::repeats(field)
+}
+
+// Whether the first names of a field, up to a comma past a length, make no set; then all its names make none.
+fn fails_early(field: &[u8], size: usize) -> bool
+    requires { ⌜ length (now field) ≤ 32768 ⌝ }
+    ensures { λ r. ⌜ (r ≡ true → areSet (split 44 (now (field .entry))) ≡ false) ⌝ }
+{
+    if field.len() < size {
+        return false;
+    }
+    let cut = text::seek(field, size, b',');
+    !are_set(&field[..cut])
+}
+
 // A set field with an undeclared name: malformed all the same where a name has no form or stands twice.
+// A fault near the start is found without a look at the rest.
 fn read_undeclared(field: &[u8]) -> SetRead
     requires { ⌜ (length (now field) ≤ 32768) × (sameBytes (now field) (bytes "-") ≡ false) ⌝ }
     ensures { λ r. ⌜ r ≡ undeclaredSet (now (field .entry)) ⌝ }
 {
-    if !all_names(field) {
+    if fails_early(field, 1024) {
         return malformed_set();
     }
-    if distinct::repeats(field) {
+    if fails_early(field, 8192) {
+        return malformed_set();
+    }
+    if !are_set(field) {
         return malformed_set();
     }
     SetRead {

@@ -1,12 +1,12 @@
 -- The pieces between separators: lines between LFs, fields between tabs, names between commas.
 use Prim.Native.Nat.{ℕ, zero, suc, _+_, _-_, _<_, _≤_, zero-le}
 use mathlib.Core.Bool.{Bool, true, false, cond, _&&_, _||_, false≢true, and-eq-true-iff}
-use mathlib.Core.List.{List, [], _∷_, _++_, append-assoc}
+use mathlib.Core.List.{List, [], _∷_, _++_, append-assoc, append-nil}
 use mathlib.Core.Path.{_≡_, refl, sym, ap, ap₂, _∙_}
 use borrow.Author.Tests.{eqb-true, eq-eqb, lt-ltb, le-ltb}
 use lib.Dec.{eqb, ltb}
-use lib.ListN.{length, take, drop, length-take, length-drop}
-use lib.Seq.{take-all, drop-drop}
+use lib.ListN.{length, getD, take, drop, length-take, length-drop}
+use lib.Seq.{take-all, drop-drop, getD-drop}
 use native.Mathlib.Decide.{decLt}
 use native.Mathlib.Omega.{arith}
 use Rattle.bytes.specs.Bytes.{indexOf, indexAfter}
@@ -166,6 +166,42 @@ split-piece mark (byte ∷ s) = go (eqb byte mark) (split mark s)
     go true pieces = ([], pieces, refl)
     go false [] = (byte ∷ [], [], refl)
     go false (p ∷ pieces) = (byte ∷ p, pieces, refl)
+
+-- ---- the pieces before a separator, and those after it
+
+split-start : (mark : ℕ) (s : List ℕ) (n : ℕ) → n < length s → getD s n 0 ≡ mark → split mark s ≡ split mark (take n s) ++ split mark (drop (suc n) s)
+unfolding split onto
+split-start mark [] n h is = absurd (omega arith)
+split-start mark (byte ∷ rest) zero h is = rw (eq-eqb byte mark is)
+split-start mark (byte ∷ rest) (suc n) h is = go (eqb byte mark) (split-piece mark (take n rest)) (split-start mark rest n (omega arith) is)
+  where
+    after : List (List ℕ)
+    after = split mark (drop (suc n) rest)
+
+    go : (t : Bool) → (first : List ℕ) × (others : List (List ℕ)) × (split mark (take n rest) ≡ first ∷ others) → split mark rest ≡ split mark (take n rest) ++ after
+        → cond t ([] ∷ split mark rest) (onto byte (split mark rest)) ≡ cond t ([] ∷ split mark (take n rest)) (onto byte (split mark (take n rest))) ++ after
+    go true piece below = ap (λ (ps : List (List ℕ)). [] ∷ ps) below
+    go false (first, others, is) below = rw (below, is)
+
+found-mark : (mark : ℕ) (s : List ℕ) → indexOf mark s < length s → getD s (indexOf mark s) 0 ≡ mark
+unfolding indexOf indexAfter
+found-mark mark [] h = absurd (omega arith)
+found-mark mark (byte ∷ rest) h = go (eqb byte mark) refl h (found-mark mark rest)
+  where
+    go : (t : Bool) → eqb byte mark ≡ t → indexAfter t (indexOf mark rest) < suc (length rest) → (indexOf mark rest < length rest → getD rest (indexOf mark rest) 0 ≡ mark)
+        → getD (byte ∷ rest) (indexAfter t (indexOf mark rest)) 0 ≡ mark
+    go true e less below = eqb-true byte mark e
+    go false e less below = below (omega arith)
+
+-- found or not: the pieces up to the place are the first pieces of all
+pub sought-start : (s : List ℕ) (from mark place : ℕ) → Sought s from mark place → (more : List (List ℕ)) × (split mark s ≡ split mark (take place s) ++ more)
+sought-start s from mark place sought = go (decLt place (length s))
+  where
+    go : Dec (place < length s) → (more : List (List ℕ)) × (split mark s ≡ split mark (take place s) ++ more)
+    go (yes less) =
+        let here : getD s place 0 ≡ mark = ap (λ (k : ℕ). getD s k 0) (sought .first) ∙ sym (getD-drop from s (indexOf mark (drop from s)) 0) ∙ found-mark mark (drop from s) (omega (arith, length-drop from s, sought .first)) in
+        (split mark (drop (suc place) s), split-start mark s place less here)
+    go (no end) = ([], ap (split mark) (sym (take-all place s (omega arith))) ∙ sym (append-nil (split mark (take place s))))
 
 -- a part is no longer than the whole
 pub part-short : (s : List ℕ) (from to : ℕ) {most : ℕ} → length s ≤ most → length (part s from to) ≤ most

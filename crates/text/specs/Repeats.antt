@@ -1,6 +1,6 @@
 -- The order in which byte strings stand does not matter to whether one stands twice.
 use Prim.Native.Nat.{ℕ}
-use mathlib.Core.Bool.{Bool, true, false, _||_, or-true}
+use mathlib.Core.Bool.{Bool, true, false, _||_, or-true, false≢true}
 use mathlib.Core.List.{List, [], _∷_, _++_, append-nil}
 use mathlib.Core.Path.{_≡_, refl, sym, ap, ap₂, _∙_, subst}
 use Rattle.text.specs.Pieces.{sameBytes, among, repeated, same-equal, equal-same}
@@ -62,3 +62,13 @@ unfolding repeated
 now-repeated done p more old =
     repeated-moved p done more
     ∙ ap (λ (b : Bool). b || repeated (done ++ more)) (among-more p done more ∙ ap (λ (b : Bool). b || among p more) old)
+
+-- a repeat among the first is a repeat
+pub repeated-start : (some more : List (List ℕ)) → repeated some ≡ true → repeated (some ++ more) ≡ true
+unfolding repeated
+repeated-start [] more twice = absurd (false≢true twice)
+repeated-start (s ∷ some) more twice = rw (among-more s some more) (go (among s some) refl (repeated-start some more))
+  where
+    go : (a : Bool) → among s some ≡ a → (repeated some ≡ true → repeated (some ++ more) ≡ true) → ((a || among s more) || repeated (some ++ more)) ≡ true
+    go true e below = refl
+    go false e below = rw (below (sym (ap (λ (b : Bool). b || repeated some) e) ∙ twice)) (or-true (among s more))
