@@ -71,6 +71,7 @@ fn malformed_set() -> SetRead
 }
 
 // Whether the names of a field make a set: each has the form of a name, and none stands twice.
+// Two functions ask it: it so stays apart when compiled, and the large table that it works in is in no frame but its own.
 fn are_set(field: &[u8]) -> bool
     requires { ⌜ length (now field) ≤ 32768 ⌝ }
     ensures { λ r. ⌜ r ≡ areSet (split 44 (now (field .entry))) ⌝ }
