@@ -26,6 +26,9 @@ const LONG_ENOUGH: Duration = Duration::from_millis(200);
 
 const TEXT_LIMIT: usize = 32_768;
 
+/// The place of the full policy that is only read, among the inputs of check.
+const READ_ONLY: usize = 1;
+
 /// The texts that try to be slow, each beside an ordinary one.
 const HOSTILE: [(&str, &str); 8] = [
     ("names.policy", "t1.typing"),
@@ -155,9 +158,10 @@ fn ratio(one: Duration, other: Duration) -> String {
     format!("{:.2}", one.as_secs_f64() / other.as_secs_f64())
 }
 
-fn print_times(inputs: &[Input], lent: &mut Lent) {
+fn print_times(inputs: &[Input], lent: &mut Lent) -> Vec<Times> {
     println!("| texts | bytes | answer | library, µs | reference, µs | library / reference |");
     println!("|---|---|---|---|---|---|");
+    let mut all = Vec::new();
     for input in inputs {
         let times = times(input, lent);
         let bytes: Vec<String> = input.texts.iter().map(|text| text.len().to_string()).collect();
@@ -170,6 +174,17 @@ fn print_times(inputs: &[Input], lent: &mut Lent) {
             microseconds(times.reference),
             ratio(times.library, times.reference)
         );
+        all.push(times);
+    }
+    all
+}
+
+/// The library's time for each input as a multiple of its time for another one.
+fn print_multiples(inputs: &[Input], times: &[Times], one: Duration) {
+    println!("| texts | times the reading of a full policy |");
+    println!("|---|---|");
+    for (input, times) in inputs.iter().zip(times) {
+        println!("| {} | {} |", input.name, ratio(times.library, one));
     }
 }
 
@@ -233,6 +248,7 @@ fn main() {
     let desk = Input::new("the desk", &[&read(folder, "desk.policy"), &read(folder, "t1.typing")]);
     let check = [
         desk,
+        // the place that `READ_ONLY` names
         read_only(128),
         full(128, Closing::OneRound),
         full(128, Closing::ManyRounds),
@@ -253,11 +269,13 @@ fn main() {
     );
     println!("before each call, which is not part of the time; what the reference allocates is.");
     println!("\n## Check\n");
-    print_times(&check, &mut lent);
+    let checked = print_times(&check, &mut lent);
     println!("\n## Merge\n");
     print_times(&merge, &mut lent);
     println!("\n## Hostile texts\n");
-    print_times(&hostile, &mut lent);
+    let attacked = print_times(&hostile, &mut lent);
+    println!();
+    print_multiples(&hostile, &attacked, checked[READ_ONLY].library);
 
     println!("\n## Growth with the number of roles\n");
     for closing in [Closing::OneRound, Closing::ManyRounds] {
@@ -269,13 +287,13 @@ fn main() {
 
     println!("## Stack\n");
     println!("| call | bytes of stack at most | for |\n|---|---|---|");
-    let checked: Vec<&Input> = check.iter().chain(&hostile).collect();
+    let asked: Vec<&Input> = check.iter().chain(&hostile).collect();
     let merged: Vec<&Input> = merge.iter().collect();
-    print_stack("check", &checked, ask_library);
-    print_stack("check_line", &checked, |texts, lent| {
+    print_stack("check", &asked, ask_library);
+    print_stack("check_line", &asked, |texts, lent| {
         lent.count = library::check_line(&texts[0], &texts[1], &mut lent.out);
     });
-    print_stack("bad_line", &checked, |texts, lent| {
+    print_stack("bad_line", &asked, |texts, lent| {
         lent.count = library::bad_line(&texts[0], &texts[1], &mut lent.values);
     });
     print_stack("sum", &merged, |texts, lent| {
