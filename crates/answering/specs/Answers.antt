@@ -2,6 +2,9 @@
 use Prim.Native.Nat.{ℕ, suc}
 use mathlib.Core.Bool.{Bool, cond}
 use mathlib.Core.List.{List, [], _∷_}
+use lib.ListN.{getD}
+use Rattle.text.specs.declared.Name.{Name}
+use Rattle.text.specs.Names.{packed}
 use Rattle.model.specs.declared.Typing.{Typing as Table}
 use Rattle.reading.specs.Texts.{Reading, read, refused}
 use Rattle.reading.specs.declared.lines.Counts.{Counts}
@@ -41,6 +44,15 @@ answerAfter (refused number line) evidence = Answer.Refused number line
 
 unfoldable pub answerOf : (policy evidence : List ℕ) → Answer
 answerOf policy evidence = answerAfter (readPolicy policy) evidence
+
+-- the users of a policy text; none where it is refused
+unfoldable pub usersIn : Reading Said → List Name
+usersIn (read s) = s .users
+usersIn (refused number line) = []
+
+-- the name of the user at a place of the policy; the name of no bytes where there is none
+unfoldable pub nameAt : List Name → ℕ → Name
+nameAt users user = getD users user (packed [])
 
 -- Document 01's number of an answer, and its values in the order of the table. A part is told by its number, a user by its number from 1.
 abbrev pub numberOf : Answer → ℕ

@@ -1,30 +1,35 @@
 -- How the answer follows from what a reader finds: the laws of its definition.
-use Prim.Native.Nat.{ℕ}
+use Prim.Native.Nat.{ℕ, zero, suc, _+_, _*_, _≤_, _<_}
 use mathlib.Core.Bool.{Bool, true, false, cond}
-use mathlib.Core.List.{List}
+use mathlib.Core.List.{List, []}
 use mathlib.Core.Path.{_≡_, refl, sym, ap, ap₂, subst, _∙_}
+use lib.ListN.{drop, List·getD-eq-default}
+use lib.Seq.{drop-drop}
+use native.Mathlib.Omega.{arith}
 use Rattle.text.specs.declared.Name.{Name}
-use Rattle.text.specs.Names.{rows}
+use Rattle.text.specs.Names.{packed, rowOf, rows, rows-length}
 use Rattle.model.specs.declared.Typing.{Typing as Table}
 use Rattle.reading.specs.Texts.{Reading, read, refused}
 use Rattle.reading.specs.declared.lines.Counts.{Counts}
 use Rattle.reading.specs.declared.policy.Policy.{Policy}
-use Rattle.reading.specs.declared.policy.PolicyRead.{PolicyRead}
-use Rattle.reading.specs.Policy.{Said, countsOf, laidOut, readPolicy, policyRead}
+use Rattle.reading.specs.Policy.{Said, countsOf, laidOut, readPolicy}
 use Rattle.reading.specs.Reached.{Bounded}
-use Rattle.reading.specs.Told.{counts-laid, roles-laid}
+use Rattle.reading.specs.Told.{counts-laid, roles-laid, users-laid}
 use Rattle.evidence.specs.declared.typing.TypingRead.{TypingRead}
-use Rattle.evidence.specs.TypingText.{readTyping, typingRead}
+use Rattle.evidence.specs.TypingText.{Typed, readTyping, tableOf, typingRead}
 use Rattle.evidence.specs.TypingTold.{typing-told, typing-untold}
 use Rattle.evidence.specs.Place.{isTyping}
 use Rattle.judging.specs.Layout.{subject-laid}
 use Rattle.judging.specs.declared.Part.{Part}
 use Rattle.judging.specs.declared.TypingVerdict.{TypingVerdict}
 use Rattle.judging.specs.Verdict.{Subject, subjectOf, subjectIn, judgedTyping, pinnedNames}
+use Rattle.running.specs.declared.TraceVerdict.{TraceVerdict}
 use Rattle.running.specs.Verdict.{traceVerdict}
-use Rattle.running.specs.Layout.{saidIn, Counted, said-laid, counted-laid}
+use Rattle.running.specs.Layout.{saidIn, Counted, counted-laid, verdict-laid}
 use Rattle.answering.specs.declared.Answer.{Answer}
-use Rattle.answering.specs.Answers.{judgedAnswer, typingAnswer, traceAnswer, evidenceAnswer, answerAfter, answerOf}
+use Rattle.answering.specs.declared.NamedAnswer.{NamedAnswer}
+use Rattle.answering.specs.Answers.{judgedAnswer, typingAnswer, traceAnswer, evidenceAnswer, answerAfter, answerOf, usersIn, nameAt}
+use Rattle.answering.specs.Named.{nameIn, namedOver, unnamedAnswer, namedAnswer}
 
 -- ---- a typing that is read
 
@@ -50,37 +55,77 @@ module _ (c : Counts) (subject : Subject) (names : List Name) (text : List ℕ) 
       let t = typing-told names text given none in
       ap (λ (table : Table). judgedAnswer c table (judgedTyping subject table)) (t .laid) ∙ sym (ap (typingAnswer c subject) (t .is))
 
+-- ---- the name of a user
+
+-- the name in a table's row, and no name past its rows
+pub name-row : (count user : ℕ) (table : List ℕ) → user < count → rowOf (drop (4 * user) table) ≡ nameAt (rows count table) user
+unfolding nameAt rows
+name-row zero user table here = absurd (omega arith)
+name-row (suc count) zero table here = refl
+name-row (suc count) (suc user) table here =
+    let on : 4 + 4 * user ≡ 4 * suc user = omega arith in
+    ap rowOf (ap (λ (k : ℕ). drop k table) (sym on) ∙ sym (drop-drop (4 * user) 4 table)) ∙ name-row count user (drop 4 table) (omega arith)
+
+pub name-none : (count user : ℕ) (table : List ℕ) → count ≤ user → packed [] ≡ nameAt (rows count table) user
+unfolding nameAt
+name-none count user table past = sym (List·getD-eq-default (rows count table) (packed []) (omega (arith, rows-length count table)))
+
+-- the answer to a typing text speaks of none
+typing-unnamed : (users : List Name) (c : Counts) (subject : Subject) (r : Reading Typed) → unnamedAnswer (typingAnswer c subject r) ≡ namedOver users (typingAnswer c subject r)
+unfolding unnamedAnswer namedOver nameIn typingAnswer judgedAnswer
+typing-unnamed users c subject (refused number line) = refl
+typing-unnamed users c subject (read t) = go (judgedTyping subject (tableOf t))
+  where
+    go : (v : TypingVerdict) → unnamedAnswer (judgedAnswer c (tableOf t) v) ≡ namedOver users (judgedAnswer c (tableOf t) v)
+    go TypingVerdict.Accepted = refl
+    go (TypingVerdict.Fails part number) = refl
+
+-- ---- a trace that is read
+
+module _ (users : List Name) {v : TraceVerdict} where
+  -- a verdict that speaks of no user,
+  pub traced-unnamed : {known : TraceVerdict} {r : NamedAnswer} → v ≡ known → r ≡ unnamedAnswer (traceAnswer known) → nameIn users (traceAnswer known) ≡ packed [] → r ≡ namedOver users (traceAnswer v)
+  unfolding unnamedAnswer namedOver
+  traced-unnamed {known} is given none =
+      given ∙ (λ i. record { answer = traceAnswer known; name = sym none i }) ∙ ap (λ (w : TraceVerdict). namedOver users (traceAnswer w)) (sym is)
+
+  -- and the one that does
+  pub traced-named : {steps user goal : ℕ} {name : Name} → v ≡ TraceVerdict.Attacked steps user goal → name ≡ nameAt users user
+      → record { answer = Answer.Attacked steps user goal; name = name } ≡ namedOver users (traceAnswer v)
+  unfolding namedOver nameIn traceAnswer
+  traced-named {steps} {user} {goal} is named =
+      (λ i. record { answer = Answer.Attacked steps user goal; name = named i }) ∙ ap (λ (w : TraceVerdict). namedOver users (traceAnswer w)) (sym is)
+
 -- ---- both texts
 
--- The record comes of reading some policy text.
-pub record FromText (R : PolicyRead) : Type 0 where
-  pub text : List ℕ
-  pub is : R ≡ policyRead text
-
 module _ (policy evidence : List ℕ) where
-  pub policy-refused : {k n : ℕ} → readPolicy policy ≡ refused k n → Answer.Refused k n ≡ answerOf policy evidence
-  unfolding answerOf answerAfter
-  policy-refused is = sym (ap (λ (r : Reading Said). answerAfter r evidence) is)
+  -- what is answered once the policy is read or refused
+  answer-after : {r : Reading Said} → readPolicy policy ≡ r → namedOver (usersIn r) (answerAfter r evidence) ≡ namedAnswer policy evidence
+  unfolding namedAnswer answerOf
+  answer-after is = sym (ap (λ (r : Reading Said). namedOver (usersIn r) (answerAfter r evidence)) is)
+
+  pub policy-refused : {k n : ℕ} → readPolicy policy ≡ refused k n → unnamedAnswer (Answer.Refused k n) ≡ namedAnswer policy evidence
+  unfolding unnamedAnswer namedOver nameIn usersIn answerAfter
+  policy-refused is = answer-after is
 
   module _ {s : Said} (is : readPolicy policy ≡ read s) (bounded : Bounded s) {p : Policy} (laid : p ≡ laidOut s) where
-    read-answer : evidenceAnswer s evidence ≡ answerOf policy evidence
-    unfolding answerOf answerAfter
-    read-answer = sym (ap (λ (r : Reading Said). answerAfter r evidence) is)
+    -- by the kind of the evidence
+    read-answer : {kind : Bool} → isTyping evidence ≡ kind
+        → namedOver (s .users) (cond kind (typingAnswer (countsOf s) (subjectOf s) (readTyping (s .roles) evidence)) (traceAnswer (traceVerdict s evidence))) ≡ namedAnswer policy evidence
+    unfolding usersIn answerAfter evidenceAnswer
+    read-answer kind =
+        ap (λ (b : Bool). namedOver (s .users) (cond b (typingAnswer (countsOf s) (subjectOf s) (readTyping (s .roles) evidence)) (traceAnswer (traceVerdict s evidence)))) (sym kind) ∙ answer-after is
 
-    pub over-typing : isTyping evidence ≡ true → typingAnswer (p .counts) (subjectIn p) (readTyping (rows (p .counts .roles) (p .roles)) evidence) ≡ answerOf policy evidence
-    unfolding evidenceAnswer
+    pub over-typing : isTyping evidence ≡ true → unnamedAnswer (typingAnswer (p .counts) (subjectIn p) (readTyping (rows (p .counts .roles) (p .roles)) evidence)) ≡ namedAnswer policy evidence
     over-typing kind =
-        ap₂ (λ (c : Counts) (names : List Name). typingAnswer c (subjectIn p) (readTyping names evidence)) (counts-laid s bounded laid) (roles-laid s bounded laid)
-        ∙ ap (λ (subject : Subject). typingAnswer (countsOf s) subject (readTyping (s .roles) evidence)) (ap subjectIn laid ∙ subject-laid bounded)
-        ∙ sym (ap (λ (b : Bool). cond b (typingAnswer (countsOf s) (subjectOf s) (readTyping (s .roles) evidence)) (traceAnswer (traceVerdict s evidence))) kind)
-        ∙ read-answer
+        ap₂ (λ (c : Counts) (names : List Name). unnamedAnswer (typingAnswer c (subjectIn p) (readTyping names evidence))) (counts-laid s bounded laid) (roles-laid s bounded laid)
+        ∙ ap (λ (subject : Subject). unnamedAnswer (typingAnswer (countsOf s) subject (readTyping (s .roles) evidence))) (ap subjectIn laid ∙ subject-laid bounded)
+        ∙ typing-unnamed (s .users) (countsOf s) (subjectOf s) (readTyping (s .roles) evidence)
+        ∙ read-answer kind
 
-    pub over-trace : isTyping evidence ≡ false → traceAnswer (traceVerdict (saidIn p) evidence) ≡ answerOf policy evidence
-    unfolding evidenceAnswer
-    over-trace kind =
-        ap (λ (said : Said). traceAnswer (traceVerdict said evidence)) (ap saidIn laid ∙ said-laid bounded)
-        ∙ sym (ap (λ (b : Bool). cond b (typingAnswer (countsOf s) (subjectOf s) (readTyping (s .roles) evidence)) (traceAnswer (traceVerdict s evidence))) kind)
-        ∙ read-answer
+    pub over-trace : {v : TraceVerdict} → v ≡ traceVerdict (saidIn p) evidence → isTyping evidence ≡ false → namedOver (rows (p .counts .users) (p .users)) (traceAnswer v) ≡ namedAnswer policy evidence
+    over-trace verdict kind =
+        ap₂ (λ (users : List Name) (v : TraceVerdict). namedOver users (traceAnswer v)) (users-laid s bounded laid) (verdict ∙ verdict-laid evidence bounded laid) ∙ read-answer kind
 
 -- the counts of a policy that is read are within their limits
 pub counted : {s : Said} {p : Policy} → Bounded s → p ≡ laidOut s → Counted p

@@ -1,5 +1,6 @@
 -- What is answered to two texts, and what the answers mean.
 pub mod Answers
+pub mod Named
 pub mod Laws
 pub mod Exact
 pub mod Worked

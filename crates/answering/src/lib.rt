@@ -1,16 +1,10 @@
 // The answer to a policy text and a piece of evidence.
 ghost use mathlib.Core.Path.{_≡_};
-ghost use mathlib.Core.List.{List};
-ghost use Prim.Native.Nat.{ℕ, _*_, _≤_};
+ghost use Prim.Native.Nat.{_*_, _≤_};
 ghost use lib.ListN.{length};
 ghost use Rattle.text.specs.Names.{rows};
-ghost use Rattle.reading.specs.Policy.{policyRead};
-ghost use Rattle.evidence.specs.TypingText.{readTyping};
-ghost use Rattle.judging.specs.Verdict.{subjectIn};
-ghost use Rattle.running.specs.Verdict.{traceVerdict};
-ghost use Rattle.running.specs.Layout.{Counted, saidIn};
-ghost use Rattle.answering.specs.Laws.{FromText};
-ghost use Rattle.answering.specs.Answers.{judgedAnswer, typingAnswer, traceAnswer, answerOf};
+ghost use Rattle.answering.specs.Answers.{judgedAnswer, traceAnswer, answerOf, nameAt};
+ghost use Rattle.answering.specs.Named.{namedOver, unnamedAnswer, namedAnswer};
 use evidence::place::is_typing;
 use evidence::typing::read_typing;
 use judging::Part;
@@ -19,11 +13,11 @@ use judging::judge_typing;
 use judging::pinned;
 use model::Typing;
 use reading::lines::Counts;
-use reading::policy::Policy;
-use reading::policy::PolicyRead;
+use reading::policy::has_header;
 use reading::policy::read_policy;
 use running::TraceVerdict;
 use running::run_trace;
+use text::Name;
 
 // The answer to two texts.
 pub enum Answer {
@@ -41,6 +35,12 @@ pub enum Answer {
     Refused(u64, usize),
 }
 
+// The answer with the name of the user of whom it speaks: the name of no bytes where it speaks of none.
+pub struct NamedAnswer {
+    pub answer: Answer,
+    pub name: Name,
+}
+
 // The answer to a typing that is read, by its verdict.
 fn judged(verdict: TypingVerdict, c: Counts, t: Typing) -> Answer
     ensures { λ r. ⌜ r ≡ judgedAnswer c t verdict ⌝ }
@@ -51,51 +51,83 @@ fn judged(verdict: TypingVerdict, c: Counts, t: Typing) -> Answer
     Answer::Unproved(part, number)
 }
 
-// The answer to a typing text over a policy.
-fn check_typing(text: &[u8], p: Policy) -> Answer
-    requires { ⌜ (4 * p .counts .roles ≤ length (p .roles)) × (p .counts .roles ≤ 128) ⌝ }
-    ensures { λ r. ⌜ r ≡ typingAnswer (p .counts) (subjectIn p) (readTyping (rows (p .counts .roles) (p .roles)) (now (text .entry))) ⌝ }
+// An answer that speaks of no user.
+fn unnamed(answer: Answer) -> NamedAnswer
+    ensures { λ r. ⌜ r ≡ unnamedAnswer answer ⌝ }
 {
+    let name = text::pack(b"");
+    NamedAnswer { answer, name }
+}
+
+// The name of the user at a place, and the name of no bytes where there is none.
+fn name_at(users: &[u64], count: usize, user: usize) -> Name
+    requires { ⌜ 4 * count ≤ length (now users) ⌝ }
+    ensures { λ r. ⌜ r ≡ nameAt (rows count (now (users .entry))) user ⌝ }
+{
+    if user < count {
+        return text::row(users, user);
+    }
+    text::pack(b"")
+}
+
+// The answer to a trace, by its verdict, over the policy's users.
+fn traced(verdict: TraceVerdict, users: &[u64], count: usize) -> NamedAnswer
+    requires { ⌜ 4 * count ≤ length (now users) ⌝ }
+    ensures { λ r. ⌜ r ≡ namedOver (rows count (now (users .entry))) (traceAnswer verdict) ⌝ }
+{
+    match verdict {
+        TraceVerdict::Refused(number, line) => unnamed(Answer::Refused(number, line)),
+        TraceVerdict::Attacked(steps, user, goal) => {
+            let answer = Answer::Attacked(steps, user, goal);
+            let name = name_at(users, count, user);
+            NamedAnswer { answer, name }
+        }
+        TraceVerdict::Broken(step) => unnamed(Answer::Broken(step)),
+        TraceVerdict::Short(steps) => unnamed(Answer::Short(steps)),
+    }
+}
+
+// The answer to two texts: the policy is read, then the evidence, then it is judged.
+fn answer_read(policy: &[u8], evidence: &[u8]) -> NamedAnswer
+    ensures { λ r. ⌜ r ≡ namedAnswer (now (policy .entry)) (now (evidence .entry)) ⌝ }
+{
+    let p = read_policy(policy);
+    if p.refusal != 0 {
+        return unnamed(Answer::Refused(p.refusal, p.line));
+    }
     let c = p.counts;
-    let read = read_typing(text, &p.roles, c.roles);
-    if read.refusal != 0 {
-        return Answer::Refused(read.refusal, read.line);
-    }
-    let t = read.typing;
-    judged(judge_typing(p, t), c, t)
-}
-
-// The answer to a trace text over a policy.
-fn check_trace(text: &[u8], p: Policy) -> Answer
-    requires { ⌜ Counted p ⌝ }
-    ensures { λ r. ⌜ r ≡ traceAnswer (traceVerdict (saidIn p) (now (text .entry))) ⌝ }
-{
-    match run_trace(text, p) {
-        TraceVerdict::Refused(number, line) => Answer::Refused(number, line),
-        TraceVerdict::Attacked(steps, user, goal) => Answer::Attacked(steps, user, goal),
-        TraceVerdict::Broken(step) => Answer::Broken(step),
-        TraceVerdict::Short(steps) => Answer::Short(steps),
-    }
-}
-
-// The answer to a piece of evidence over a policy text that has been read or refused.
-pub fn answer_to(read: PolicyRead, evidence: &[u8]) -> Answer
-    requires { ⌜ FromText read ⌝ }
-    ensures { λ r. ⌜ ((policy : List ℕ) → read ≡ policyRead policy → r ≡ answerOf policy (now (evidence .entry))) ⌝ }
-{
-    if read.refusal != 0 {
-        return Answer::Refused(read.refusal, read.line);
-    }
-    let p = read.policy;
     if is_typing(evidence) {
-        return check_typing(evidence, p);
+        let roles = p.roles;
+        let read = read_typing(evidence, &roles, c.roles);
+        if read.refusal != 0 {
+            return unnamed(Answer::Refused(read.refusal, read.line));
+        }
+        let t = read.typing;
+        return unnamed(judged(judge_typing(p, t), c, t));
     }
-    check_trace(evidence, p)
+    let verdict = run_trace(evidence, p);
+    let users = p.users;
+    traced(verdict, &users, c.users)
+}
+
+// The answer to a policy text and a piece of evidence, with the name of the user of whom it speaks. A policy that is too long or
+// lacks its header is refused before any room is laid out for it.
+pub fn named_answer(policy: &[u8], evidence: &[u8]) -> NamedAnswer
+    ensures { λ r. ⌜ r ≡ namedAnswer (now (policy .entry)) (now (evidence .entry)) ⌝ }
+{
+    if 32768 < policy.len() {
+        return unnamed(Answer::Refused(10, 0));
+    }
+    if !has_header(policy) {
+        return unnamed(Answer::Refused(11, 1));
+    }
+    answer_read(policy, evidence)
 }
 
 // The answer to a policy text and a piece of evidence: the policy first, then the evidence, then the judging.
 pub fn check(policy: &[u8], evidence: &[u8]) -> Answer
     ensures { λ r. ⌜ r ≡ answerOf (now (policy .entry)) (now (evidence .entry)) ⌝ }
 {
-    answer_to(read_policy(policy), evidence)
+    let named = named_answer(policy, evidence);
+    named.answer
 }

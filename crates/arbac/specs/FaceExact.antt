@@ -15,7 +15,8 @@ use Rattle.writing.specs.Spelling.{decimal-length, spelled-length}
 use Rattle.merging.specs.declared.SumAnswer.{SumAnswer}
 use Rattle.merging.specs.declared.MergeAnswer.{MergeAnswer}
 use Rattle.answering.specs.declared.Answer.{Answer}
-use Rattle.printing.specs.Line.{field, partText, nameAt, lineOf, checkLine}
+use Rattle.answering.specs.Answers.{nameAt}
+use Rattle.printing.specs.Line.{field, partText, lineOf, checkLine}
 use Rattle.arbac.specs.Face.{checkNumbers, sumNumbers, mergeNumbers, roomFor, toldCount}
 
 -- The longest answers have 6, 3 and 7 numbers.

@@ -60,14 +60,13 @@ pub fn evidence_refusal<'a>(text: &[u8], roles: &'a [u64], users: &'a [u64], c: 
 pub fn refusal_of(policy: &[u8], evidence: &[u8]) -> Refusal
     ensures { λ r. ⌜ r ≡ refusalOf (now (policy .entry)) (now (evidence .entry)) ⌝ }
 {
-    let read = read_policy(policy);
-    if read.refusal != 0 {
+    let p = read_policy(policy);
+    if p.refusal != 0 {
         return Refusal {
-            number: read.refusal,
-            line: read.line,
+            number: p.refusal,
+            line: p.line,
         };
     }
-    let p = read.policy;
     let c = p.counts;
     evidence_refusal(evidence, &p.roles, &p.users, c)
 }

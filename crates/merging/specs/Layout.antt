@@ -9,7 +9,6 @@ use Rattle.text.specs.declared.Name.{Name}
 use Rattle.text.specs.Names.{rows}
 use Rattle.reading.specs.declared.lines.Counts.{Counts}
 use Rattle.reading.specs.declared.policy.Policy.{Policy}
-use Rattle.reading.specs.declared.policy.PolicyRead.{PolicyRead}
 use Rattle.reading.specs.Texts.{refused}
 use Rattle.reading.specs.Policy.{Said, countsOf, laidOut}
 use Rattle.reading.specs.Reached.{Bounded}
@@ -37,7 +36,7 @@ pub record Limited (p : Policy) : Type 0 where
   pub goals : p .counts .goals ≤ 32
 
 -- a policy that is read is laid out
-pub told-laid : {text : List ℕ} {R : PolicyRead} (t : Told text R) → Laid (t .said) (R .policy)
+pub told-laid : {text : List ℕ} {p : Policy} (t : Told text p) → Laid (t .said) p
 told-laid t = record { bounded = t .bounded; laid = t .laid }
 
 module _ {s : Said} {p : Policy} (l : Laid s p) where

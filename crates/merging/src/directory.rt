@@ -60,10 +60,14 @@ pub fn same_directory(p: Policy, q: Policy) -> bool
     if users != q.counts.users {
         return false;
     }
-    if !same_words(&p.roles, &q.roles, 4 * roles) {
+    let names = p.roles;
+    let others = q.roles;
+    if !same_words(&names, &others, 4 * roles) {
         return false;
     }
-    if !same_words(&p.users, &q.users, 4 * users) {
+    let names = p.users;
+    let others = q.users;
+    if !same_words(&names, &others, 4 * users) {
         return false;
     }
     let people = p.persons;

@@ -36,7 +36,8 @@ fn write_joint(p: Policy, q: Policy, t: Typing, out: &mut [u8]) -> MergeAnswer
     if 32 < goals {
         return MergeAnswer::Refused(0, 19, 0);
     }
-    let length = write_fitting(out, &p.roles, roles, t);
+    let names = p.roles;
+    let length = write_fitting(out, &names, roles, t);
     if length == 0 {
         return MergeAnswer::Refused(0, 18, 0);
     }
@@ -76,21 +77,21 @@ pub fn merge(
 ) -> MergeAnswer
     ensures { λ r. ⌜ Meets (mergeOutcome (now («policy_1» .entry)) (now («typing_1» .entry)) (now («policy_2» .entry)) (now («typing_2» .entry)) (length (now (out .entry)))) (now (out .entry)) r (now (out .exit)) ⌝ }
 {
-    let one = read_policy(policy_1);
-    if one.refusal != 0 {
-        return MergeAnswer::Refused(1, one.refusal, one.line);
+    let p = read_policy(policy_1);
+    if p.refusal != 0 {
+        return MergeAnswer::Refused(1, p.refusal, p.line);
     }
-    let p = one.policy;
-    let first = read_typing(typing_1, &p.roles, p.counts.roles);
+    let names = p.roles;
+    let first = read_typing(typing_1, &names, p.counts.roles);
     if first.refusal != 0 {
         return MergeAnswer::Refused(2, first.refusal, first.line);
     }
-    let two = read_policy(policy_2);
-    if two.refusal != 0 {
-        return MergeAnswer::Refused(3, two.refusal, two.line);
+    let q = read_policy(policy_2);
+    if q.refusal != 0 {
+        return MergeAnswer::Refused(3, q.refusal, q.line);
     }
-    let q = two.policy;
-    let second = read_typing(typing_2, &q.roles, q.counts.roles);
+    let others = q.roles;
+    let second = read_typing(typing_2, &others, q.counts.roles);
     if second.refusal != 0 {
         return MergeAnswer::Refused(4, second.refusal, second.line);
     }

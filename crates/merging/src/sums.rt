@@ -39,7 +39,8 @@ fn write_sum(p: Policy, t: Typing, out: &mut [u8]) -> SumAnswer
     ensures { λ r. ⌜ ((s : Said) → Laid s p → Meets (sumWritten (length (now (out .entry))) (s .roles) t) (now (out .entry)) r (now (out .exit))) ⌝ }
 {
     let roles = p.counts.roles;
-    let length = write_fitting(out, &p.roles, roles, t);
+    let names = p.roles;
+    let length = write_fitting(out, &names, roles, t);
     if length == 0 {
         return SumAnswer::Refused(0, 18, 0);
     }
@@ -50,17 +51,17 @@ fn write_sum(p: Policy, t: Typing, out: &mut [u8]) -> SumAnswer
 pub fn sum(policy: &[u8], first: &[u8], second: &[u8], out: &mut [u8]) -> SumAnswer
     ensures { λ r. ⌜ Meets (sumOutcome (now (policy .entry)) (now (first .entry)) (now (second .entry)) (length (now (out .entry)))) (now (out .entry)) r (now (out .exit)) ⌝ }
 {
-    let read = read_policy(policy);
-    if read.refusal != 0 {
-        return SumAnswer::Refused(1, read.refusal, read.line);
+    let p = read_policy(policy);
+    if p.refusal != 0 {
+        return SumAnswer::Refused(1, p.refusal, p.line);
     }
-    let p = read.policy;
     let roles = p.counts.roles;
-    let one = read_typing(first, &p.roles, roles);
+    let names = p.roles;
+    let one = read_typing(first, &names, roles);
     if one.refusal != 0 {
         return SumAnswer::Refused(2, one.refusal, one.line);
     }
-    let two = read_typing(second, &p.roles, roles);
+    let two = read_typing(second, &names, roles);
     if two.refusal != 0 {
         return SumAnswer::Refused(3, two.refusal, two.line);
     }

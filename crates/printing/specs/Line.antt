@@ -1,18 +1,16 @@
 -- The line that `check` prints for an answer, its fields parted by tabs.
 use Prim.Native.Nat.{ℕ}
 use mathlib.Core.Bool.{cond}
-use mathlib.Core.List.{List, [], _++_}
+use mathlib.Core.List.{List, _++_}
 use lib.Dec.{leb}
-use lib.ListN.{length, getD}
+use lib.ListN.{length}
 use Rattle.text.specs.declared.Name.{Name}
 use Rattle.text.specs.Forms.{bytes}
-use Rattle.text.specs.Names.{packed}
-use Rattle.reading.specs.Texts.{Reading, read, refused}
-use Rattle.reading.specs.Policy.{Said, readPolicy}
+use Rattle.reading.specs.Policy.{readPolicy}
 use Rattle.judging.specs.declared.Part.{Part}
 use Rattle.writing.specs.Written.{put, spelled, decimal}
 use Rattle.answering.specs.declared.Answer.{Answer}
-use Rattle.answering.specs.Answers.{answerOf}
+use Rattle.answering.specs.Answers.{answerOf, usersIn, nameAt}
 
 -- a field after its tab
 unfoldable pub field : List ℕ → List ℕ
@@ -24,10 +22,6 @@ partText Part.Assign = bytes "assign"
 partText Part.Revoke = bytes "revoke"
 partText Part.Goal = bytes "goal"
 
--- the name of the user at a place of the policy
-unfoldable pub nameAt : List Name → ℕ → Name
-nameAt users user = getD users user (packed [])
-
 -- The line of an answer over the policy's users, with its LF.
 unfoldable pub lineOf : List Name → Answer → List ℕ
 lineOf users (Answer.Safe roles assigns revokes goals pinned) =
@@ -37,11 +31,6 @@ lineOf users (Answer.Unproved part number) = bytes "UNPROVED" ++ field (partText
 lineOf users (Answer.Broken step) = bytes "BROKEN" ++ field (decimal step) ++ bytes "\n"
 lineOf users (Answer.Short steps) = bytes "SHORT" ++ field (decimal steps) ++ bytes "\n"
 lineOf users (Answer.Refused number line) = bytes "REFUSED" ++ field (decimal number) ++ field (decimal line) ++ bytes "\n"
-
--- the users of a policy text; none where it is refused
-unfoldable pub usersIn : Reading Said → List Name
-usersIn (read s) = s .users
-usersIn (refused number line) = []
 
 -- The line that `check` prints for two texts.
 unfoldable pub checkLine : (policy evidence : List ℕ) → List ℕ

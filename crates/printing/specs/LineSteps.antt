@@ -1,20 +1,19 @@
 -- A line written field after field, and that it has at most 128 bytes.
-use Prim.Native.Nat.{ℕ, zero, suc, _+_, _-_, _*_, _≤_, _<_}
+use Prim.Native.Nat.{ℕ, _+_, _-_, _≤_, _<_}
 use borrow.Rule.Slice.PartMut.{same-len-mid}
 use mathlib.Core.List.{List, [], _∷_, _++_, append-assoc}
-use mathlib.Core.Path.{_≡_, refl, sym, ap, subst, _∙_}
-use lib.ListN.{length, set, drop, length-set, length-drop, List·getD-eq-default}
-use lib.Seq.{drop-drop}
+use mathlib.Core.Path.{_≡_, sym, ap, subst, _∙_}
+use lib.ListN.{length, set, length-set, length-drop}
 use native.Mathlib.Omega.{arith}
 use Rattle.text.specs.declared.Name.{Name}
 use Rattle.text.specs.Forms.{bytes}
-use Rattle.text.specs.Names.{packed, rowOf, rows, rows-length}
 use Rattle.text.specs.Pieces.{part-rest}
 use Rattle.judging.specs.declared.Part.{Part}
 use Rattle.writing.specs.Written.{put, spelled, decimal}
 use Rattle.writing.specs.Buffers.{Wrote, from, back, wrote, wrote-as, wrote-more, wrote-byte}
 use Rattle.answering.specs.declared.Answer.{Answer}
-use Rattle.printing.specs.Line.{field, partText, nameAt, lineOf}
+use Rattle.answering.specs.Named.{nameIn}
+use Rattle.printing.specs.Line.{field, partText, lineOf}
 
 -- The text before a place goes on by a piece of at most so many bytes, where there is room for them.
 pub record Goes (piece : List ℕ) (most at : ℕ) (before : List ℕ) (next : ℕ) (after : List ℕ) : Type 0 where
@@ -70,23 +69,10 @@ pub known-line : (users : List Name) {answer known : Answer} {most next : ℕ} {
 known-line users {next = next} {buffer} {out} same few line =
     subst (λ (a : Answer). Line (lineOf users a) 128 buffer next out) (sym same) (record { wrote = line .wrote; few = omega (arith, line .few) })
 
--- the name in a table's row, and no name past its rows
-pub name-row : (count user : ℕ) (table : List ℕ) → user < count → rowOf (drop (4 * user) table) ≡ nameAt (rows count table) user
-unfolding nameAt rows
-name-row zero user table here = absurd (omega arith)
-name-row (suc count) zero table here = refl
-name-row (suc count) (suc user) table here =
-    let on : 4 + 4 * user ≡ 4 * suc user = omega arith in
-    ap rowOf (ap (λ (k : ℕ). drop k table) (sym on) ∙ sym (drop-drop (4 * user) 4 table)) ∙ name-row count user (drop 4 table) (omega arith)
-
-pub name-none : (count user : ℕ) (table : List ℕ) → count ≤ user → packed [] ≡ nameAt (rows count table) user
-unfolding nameAt
-name-none count user table past = sym (List·getD-eq-default (rows count table) (packed []) (omega (arith, rows-length count table)))
-
--- the line of ATTACKED where the user's name is known
-pub attacked-name : (users : List Name) (steps user goal : ℕ) {name : Name} {most next : ℕ} {buffer out : List ℕ} → name ≡ nameAt users user
+-- the line of ATTACKED, with the name of the user of whom the answer speaks
+pub attacked-name : (users : List Name) {answer : Answer} {steps user goal : ℕ} {name : Name} {most next : ℕ} {buffer out : List ℕ} → answer ≡ Answer.Attacked steps user goal → name ≡ nameIn users answer
     → Line (bytes "ATTACKED" ++ field (decimal steps) ++ field (spelled name) ++ field (decimal goal) ++ bytes "\n") most buffer next out
     → Line (lineOf users (Answer.Attacked steps user goal)) most buffer next out
-unfolding lineOf
-attacked-name users steps user goal {most = most} {next} {buffer} {out} same line =
-    subst (λ (n : Name). Line (bytes "ATTACKED" ++ field (decimal steps) ++ field (spelled n) ++ field (decimal goal) ++ bytes "\n") most buffer next out) same line
+unfolding lineOf nameIn
+attacked-name users {steps = steps} {goal = goal} {most = most} {next} {buffer} {out} is named line =
+    subst (λ (n : Name). Line (bytes "ATTACKED" ++ field (decimal steps) ++ field (spelled n) ++ field (decimal goal) ++ bytes "\n") most buffer next out) (named ∙ ap (nameIn users) is) line

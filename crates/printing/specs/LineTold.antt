@@ -1,70 +1,51 @@
--- The line of two texts, from what a reader of the policy finds, and how it is shown in a lent buffer.
-use Prim.Native.Nat.{ℕ, _*_, _≤_, _<_, zero-le}
+-- The line of two texts, from their named answer, and how it is shown in a lent buffer.
+use Prim.Native.Nat.{ℕ, _≤_, _<_, zero-le}
 use mathlib.Core.Bool.{Bool, true, false, cond}
-use mathlib.Core.List.{List, []}
-use mathlib.Core.Path.{_≡_, refl, sym, ap, ap₂, _∙_}
+use mathlib.Core.List.{List}
+use mathlib.Core.Path.{_≡_, refl, sym, ap, ap₂, subst, _∙_}
 use borrow.Author.Tests.{lt-leb, le-leb, leb-true}
 use lib.Dec.{leb}
 use lib.ListN.{length, take}
 use lib.Seq.{length-take-le}
 use native.Mathlib.Omega.{arith}
 use Rattle.text.specs.declared.Name.{Name}
-use Rattle.text.specs.Names.{rows}
-use Rattle.reading.specs.declared.policy.PolicyRead.{PolicyRead}
-use Rattle.reading.specs.Texts.{Reading, read, refused}
-use Rattle.reading.specs.Policy.{Said, countsOf, readPolicy, nothing, laidWith, laidOut, refusedPolicy, answerOf as recordOf, policyRead}
-use Rattle.reading.specs.Kept.{read-bounded}
-use Rattle.reading.specs.Told.{users-laid, tables-laid}
+use Rattle.reading.specs.Policy.{readPolicy}
 use Rattle.writing.specs.Written.{put}
 use Rattle.writing.specs.Buffers.{put-length, put-before}
-use Rattle.answering.specs.declared.Answer.{Answer}
-use Rattle.answering.specs.Answers.{answerOf}
-use Rattle.printing.specs.Line.{lineOf, usersIn, checkLine, shownLength, shown}
+use Rattle.answering.specs.declared.NamedAnswer.{NamedAnswer}
+use Rattle.answering.specs.Answers.{usersIn}
+use Rattle.answering.specs.Named.{nameIn, namedOver, namedAnswer}
+use Rattle.printing.specs.Line.{lineOf, checkLine, shownLength, shown}
 use Rattle.printing.specs.LineSteps.{Line}
 
--- the users of the record that reading gives, and that its table has room for them
-module _ (policy : List ℕ) {R : PolicyRead} (given : R ≡ policyRead policy) where
-  users-told : rows (R .policy .counts .users) (R .policy .users) ≡ usersIn (readPolicy policy)
-  unfolding policyRead recordOf refusedPolicy laidOut laidWith countsOf nothing usersIn rows
-  users-told = ap (λ (Q : PolicyRead). rows (Q .policy .counts .users) (Q .policy .users)) given ∙ go (readPolicy policy) refl
-    where
-      go : (r : Reading Said) → readPolicy policy ≡ r → rows (recordOf r .policy .counts .users) (recordOf r .policy .users) ≡ usersIn r
-      go (read s) is = users-laid s (read-bounded policy s is) refl
-      go (refused k n) is = refl
-
-  pub users-room : 4 * R .policy .counts .users ≤ length (R .policy .users)
-  unfolding policyRead recordOf refusedPolicy laidOut laidWith countsOf nothing
-  users-room = rw given (go (readPolicy policy) refl)
-    where
-      go : (r : Reading Said) → readPolicy policy ≡ r → 4 * recordOf r .policy .counts .users ≤ length (recordOf r .policy .users)
-      go (read s) is = tables-laid s (read-bounded policy s is) refl .2
-      go (refused k n) is = omega arith
-
-  -- the line over them is that of the texts
-  pub line-told : (evidence : List ℕ) {answer : Answer} → answer ≡ answerOf policy evidence → lineOf (rows (R .policy .counts .users) (R .policy .users)) answer ≡ checkLine policy evidence
-  unfolding checkLine
-  line-told evidence is = ap₂ lineOf users-told is
+-- the line of the named answer to two texts is theirs
+pub line-told : (policy evidence : List ℕ) {named : NamedAnswer} {most count : ℕ} {space buffer : List ℕ} → named ≡ namedAnswer policy evidence
+    → ((users : List Name) → named .name ≡ nameIn users (named .answer) → Line (lineOf users (named .answer)) most space count buffer) → Line (checkLine policy evidence) most space count buffer
+unfolding checkLine namedAnswer namedOver
+line-told policy evidence {most = most} {count} {space} {buffer} given wrote =
+    let users = usersIn (readPolicy policy) in
+    let name = ap (λ (n : NamedAnswer). n .name) given ∙ sym (ap (λ (n : NamedAnswer). nameIn users (n .answer)) given) in
+    subst (λ (n : NamedAnswer). Line (lineOf users (n .answer)) most space count buffer) given (wrote users name)
 
 -- ---- a line that is made is shown where there is room for it
 
-module _ {line made : List ℕ} {count : ℕ} {buffer : List ℕ} {most : ℕ} {space : List ℕ} (is : made ≡ line) (wrote : Line made most space count buffer) where
+module _ {line : List ℕ} {count : ℕ} {buffer : List ℕ} {most : ℕ} {space : List ℕ} (wrote : Line line most space count buffer) where
   pub too-short : (out : List ℕ) → length out < count → (0 ≡ shownLength line out) × (out ≡ shown line out)
   unfolding shownLength shown
   too-short out short =
-      let long : length out < length line = omega (arith, wrote .wrote .place, ap length is) in
-      let no = lt-leb (length line) (length out) long in
+      let no = lt-leb (length line) (length out) (omega (arith, wrote .wrote .place)) in
       (sym (ap (λ (b : Bool). cond b (length line) 0) no), sym (ap (λ (b : Bool). cond b (put line out) out) no))
 
   taken : take count buffer ≡ line
-  taken = ap₂ take (wrote .wrote .place) (wrote .wrote .held) ∙ put-before made space ∙ is
+  taken = ap₂ take (wrote .wrote .place) (wrote .wrote .held) ∙ put-before line space
 
   pub taken-length : count ≡ length (take count buffer)
-  taken-length = wrote .wrote .place ∙ sym (ap length (taken ∙ sym is))
+  taken-length = wrote .wrote .place ∙ sym (ap length taken)
 
   pub fits : (out : List ℕ) {after : List ℕ} {written : ℕ} → count ≤ length out → (written ≡ length (take count buffer)) × (after ≡ put (take count buffer) out) → (written ≡ shownLength line out) × (after ≡ shown line out)
   unfolding shownLength shown
   fits out room ensured =
-      let yes = le-leb (length line) (length out) (omega (arith, wrote .wrote .place, ap length is)) in (
+      let yes = le-leb (length line) (length out) (omega (arith, wrote .wrote .place)) in (
         ensured .0 ∙ ap length taken ∙ sym (ap (λ (b : Bool). cond b (length line) 0) yes),
         ensured .1 ∙ ap (λ (l : List ℕ). put l out) taken ∙ sym (ap (λ (b : Bool). cond b (put line out) out) yes),
       )

@@ -1,20 +1,19 @@
 // The line that `check` prints, made in a lent buffer.
 ghost use mathlib.Core.List.{List, _++_};
 ghost use mathlib.Core.Path.{_≡_};
-ghost use Prim.Native.Nat.{_+_, _*_, _≤_};
+ghost use Prim.Native.Nat.{_+_, _≤_};
 ghost use lib.ListN.{length, take};
 ghost use Rattle.text.specs.declared.Name.{Name};
 ghost use Rattle.text.specs.Forms.{bytes};
-ghost use Rattle.text.specs.Names.{rows};
 ghost use Rattle.writing.specs.Written.{spelled, decimal};
 ghost use Rattle.writing.specs.Buffers.{Wrote};
-ghost use Rattle.printing.specs.Line.{field, partText, nameAt, lineOf, checkLine, shownLength, shown};
+ghost use Rattle.printing.specs.Line.{field, partText, lineOf, checkLine, shownLength, shown};
 ghost use Rattle.printing.specs.LineSteps.{Goes, Line};
 ghost use Rattle.answering.specs.declared.Answer.{Answer};
+ghost use Rattle.answering.specs.Named.{nameIn};
 use answering::Answer;
-use answering::answer_to;
+use answering::named_answer;
 use judging::Part;
-use reading::policy::read_policy;
 use text::Name;
 use writing::names::write_name;
 use writing::numbers::write_decimal;
@@ -121,29 +120,16 @@ fn refused_line(out: &mut [u8], number: usize, line: usize) -> usize
     end_line(out, last)
 }
 
-// The name of the user at a place, and the name of no bytes where there is none.
-fn name_at(users: &[u64], count: usize, user: usize) -> Name
-    requires { ⌜ 4 * count ≤ length (now users) ⌝ }
-    ensures { λ r. ⌜ r ≡ nameAt (rows count (now (users .entry))) user ⌝ }
-{
-    if user < count {
-        return text::row(users, user);
-    }
-    text::pack(b"")
-}
-
-// Writes the line of an answer over the policy's users.
-fn write_line(out: &mut [u8], answer: Answer, users: &[u64], count: usize) -> usize
-    requires { ⌜ (128 ≤ length (now out)) × (4 * count ≤ length (now users)) ⌝ }
-    ensures { λ r. ⌜ Line (lineOf (rows count (now (users .entry))) answer) 128 (now (out .entry)) r (now (out .exit)) ⌝ }
+// Writes the line of an answer with the name of the user of whom it speaks.
+fn write_line(out: &mut [u8], answer: Answer, name: Name) -> usize
+    requires { ⌜ 128 ≤ length (now out) ⌝ }
+    ensures { λ r. ⌜ ((users : List Name) → name ≡ nameIn users answer → Line (lineOf users answer) 128 (now (out .entry)) r (now (out .exit))) ⌝ }
 {
     match answer {
         Answer::Safe(roles, assigns, revokes, goals, pinned) => {
             safe_line(out, roles, assigns, revokes, goals, pinned)
         }
-        Answer::Attacked(steps, user, goal) => {
-            attacked_line(out, steps, name_at(users, count, user), goal)
-        }
+        Answer::Attacked(steps, _, goal) => attacked_line(out, steps, name, goal),
         Answer::Unproved(part, number) => unproved_line(out, part, number),
         Answer::Broken(step) => number_line(out, b"BROKEN", step),
         Answer::Short(steps) => number_line(out, b"SHORT", steps),
@@ -157,12 +143,11 @@ pub fn check_line(policy: &[u8], evidence: &[u8], out: &mut [u8]) -> usize
     ensures { λ r. ⌜ now (out .exit) ≡ shown (checkLine (now (policy .entry)) (now (evidence .entry))) (now (out .entry)) ⌝ }
     ensures { λ r. ⌜ (r ≤ length (now (out .exit))) × (r ≡ length (take r (now (out .exit)))) ⌝ }
 {
-    let read = read_policy(policy);
-    let answer = answer_to(read, evidence);
-    let p = read.policy;
-    let count = p.counts.users;
+    let named = named_answer(policy, evidence);
+    let answer = named.answer;
+    let name = named.name;
     let mut line = [0u8; 128];
-    let length = write_line(&mut line, answer, &p.users, count);
+    let length = write_line(&mut line, answer, name);
     if out.len() < length {
         return 0;
     }

@@ -10,4 +10,5 @@ pub mod Kept
 pub mod Exact
 pub mod PolicyExact
 pub mod Told
+pub mod Header
 pub mod Worked

@@ -15,7 +15,6 @@ use Rattle.reading.specs.declared.lines.Counts.{Counts}
 use Rattle.reading.specs.declared.lines.Entry.{Entry}
 use Rattle.reading.specs.declared.lines.PolicyLine.{PolicyLine}
 use Rattle.reading.specs.declared.policy.Policy.{Policy}
-use Rattle.reading.specs.declared.policy.PolicyRead.{PolicyRead}
 use Rattle.reading.specs.Texts.{Judged, goes, ends, bad, Reading, read, refused, readText}
 use Rattle.reading.specs.Lines.{policyLine}
 
@@ -153,28 +152,43 @@ noAssign = record { admin = 0; positive = emptySet; negative = emptySet; target 
 unfoldable pub noRevoke : Revoke
 noRevoke = record { admin = 0; target = 0 }
 
+-- no refusal, and what was read, laid out
 unfoldable pub laidWith : Counts → Said → Policy
 laidWith counts s = record {
-  roles = padded 512 0 (wordsOf (s .roles));
-  users = padded 512 0 (wordsOf (s .users));
+  refusal = 0;
+  line = 0;
   persons = padded 64 nobody (s .holdings);
   assigns = padded 256 noAssign (s .assigns);
   revokes = padded 256 noRevoke (s .revokes);
   goals = padded 32 emptySet (s .goals);
+  roles = padded 512 0 (wordsOf (s .roles));
+  users = padded 512 0 (wordsOf (s .users));
   counts = counts;
 }
 
 unfoldable pub laidOut : Said → Policy
 laidOut s = laidWith (countsOf s) s
 
--- a refused text gives the policy of nothing
-unfoldable pub refusedPolicy : (number line : ℕ) → PolicyRead
-refusedPolicy number line = record { refusal = number; line = line; policy = laidOut nothing }
+-- a refused text gives the refusal, with the policy of nothing
+unfoldable pub refusedPolicy : (number line : ℕ) → Policy
+refusedPolicy number line =
+    let blank = laidOut nothing in
+    record {
+      refusal = number;
+      line = line;
+      persons = blank .persons;
+      assigns = blank .assigns;
+      revokes = blank .revokes;
+      goals = blank .goals;
+      roles = blank .roles;
+      users = blank .users;
+      counts = blank .counts;
+    }
 
 -- the record that reading gives
-unfoldable pub answerOf : Reading Said → PolicyRead
-answerOf (read s) = record { refusal = 0; line = 0; policy = laidOut s }
+unfoldable pub answerOf : Reading Said → Policy
+answerOf (read s) = laidOut s
 answerOf (refused number line) = refusedPolicy number line
 
-unfoldable pub policyRead : List ℕ → PolicyRead
+unfoldable pub policyRead : List ℕ → Policy
 policyRead text = answerOf (readPolicy text)

@@ -104,7 +104,7 @@ pub record PolicyReadAs (text : List ℕ) (said : Said) : Type 0 where
 -- ---- the line `end`, by its bytes and by its fields
 
 -- one piece is all the bytes
-whole-piece : (mark : ℕ) (s : List ℕ) {piece : List ℕ} → split mark s ≡ piece ∷ [] → s ≡ piece
+pub whole-piece : (mark : ℕ) (s : List ℕ) {piece : List ℕ} → split mark s ≡ piece ∷ [] → s ≡ piece
 unfolding split onto
 whole-piece mark [] e = cc
 whole-piece mark (byte ∷ rest) {piece} e = go (eqb byte mark) e (split-piece mark rest) (λ p one. whole-piece mark rest one)

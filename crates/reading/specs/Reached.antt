@@ -21,7 +21,6 @@ use Rattle.reading.specs.declared.lines.Counts.{Counts}
 use Rattle.reading.specs.declared.lines.Entry.{Entry}
 use Rattle.reading.specs.declared.lines.PolicyLine.{PolicyLine}
 use Rattle.reading.specs.declared.policy.Policy.{Policy}
-use Rattle.reading.specs.declared.policy.PolicyRead.{PolicyRead}
 use Rattle.reading.specs.Texts.{Judged, goes, bad}
 use Rattle.reading.specs.Walk.{On, on-start, on-end, on-tail, on-bad, on-goes, on-last, on-more}
 use Rattle.reading.specs.Lines.{policyLine, Fitting, good-fits}
@@ -147,8 +146,8 @@ pub record Reached (text : List ℕ) (at number : ℕ) (p : Policy) (c : Counts)
   -- the whole text gives what the lines from here on give
   pub on : On judgeLine 11 10 nothing text at number said
 
-pub reached-start : (text : List ℕ) {p : Policy} → length text ≤ 32768 → p ≡ laidOut nothing → Reached text 0 1 p (p .counts)
-unfolding laidOut laidWith
+pub reached-start : (text : List ℕ) {p : Policy} → length text ≤ 32768 → p ≡ refusedPolicy 0 0 → Reached text 0 1 p (p .counts)
+unfolding refusedPolicy laidOut laidWith
 reached-start text {p} short blank = record {
   said = nothing;
   laid = blank;
@@ -254,11 +253,9 @@ module _ {text : List ℕ} {at number : ℕ} {p : Policy} {c : Counts} (r : Reac
 
       -- the last line, and bytes after it
       module _ (ending : answer ≡ PolicyLine.Good Entry.End) where
-        pub line-last : {p′ : Policy} → length text ≤ stop + 1 → p′ ≡ laidOut (r .said) → record { refusal = 0; line = 0; policy = p′ } ≡ policyRead text
+        pub line-last : {p′ : Policy} → length text ≤ stop + 1 → p′ ≡ laidOut (r .said) → p′ ≡ policyRead text
         unfolding policyRead readPolicy answerOf answered entered
-        line-last all is =
-            (λ i. record { refusal = 0; line = 0; policy = is i })
-            ∙ sym (ap answerOf (on-last judgeLine 11 10 nothing (r .on) sought here (judged-is (ap (answered (r .said)) ending)) all))
+        line-last all is = is ∙ sym (ap answerOf (on-last judgeLine 11 10 nothing (r .on) sought here (judged-is (ap (answered (r .said)) ending)) all))
 
         pub line-more : stop + 1 < length text → refusedPolicy 11 (number + 1) ≡ policyRead text
         unfolding policyRead readPolicy answerOf answered entered
@@ -283,9 +280,11 @@ module _ {text : List ℕ} {at number : ℕ} {p : Policy} {c : Counts} (r : Reac
   counts-role name = λ i. record { stage = 1; roles = more-one (r .said .roles) name (ap (λ (d : Counts). d .roles) (r .counted)) i; users = r .counted i .users; assigns = r .counted i .assigns; revokes = r .counted i .revokes; goals = r .counted i .goals }
 
   pub laid-role : (name : Name) {table : List ℕ} → c .roles < 128 → table ≡ stored (p .roles) (c .roles) name
-      → record { roles = table; users = p .users; persons = p .persons; assigns = p .assigns; revokes = p .revokes; goals = p .goals; counts = p .counts } ≡ laidWith (countsOf nothing) (added (r .said) (Entry.Role name))
+      → record { refusal = p .refusal; line = p .line; roles = table; users = p .users; persons = p .persons; assigns = p .assigns; revokes = p .revokes; goals = p .goals; counts = p .counts } ≡ laidWith (countsOf nothing) (added (r .said) (Entry.Role name))
   unfolding laidWith added
   laid-role name room put = λ i. record {
+    refusal = r .laid i .refusal;
+    line = r .laid i .line;
     roles = (put ∙ ap₂ (λ (t : List ℕ) (k : ℕ). stored t k name) (role-table r) (role-count r) ∙ store-name 512 (r .said .roles) name (omega (arith, role-count r))) i;
     users = r .laid i .users;
     persons = r .laid i .persons;
@@ -300,10 +299,12 @@ module _ {text : List ℕ} {at number : ℕ} {p : Policy} {c : Counts} (r : Reac
   counts-user name clearance = λ i. record { stage = 2; roles = r .counted i .roles; users = more-one (r .said .users) name (ap (λ (d : Counts). d .users) (r .counted)) i; assigns = r .counted i .assigns; revokes = r .counted i .revokes; goals = r .counted i .goals }
 
   pub laid-user : (name : Name) (clearance : Bool) {table : List ℕ} {none : RoleSet} → c .users < 64 → table ≡ stored (p .users) (c .users) name → none ≡ emptySet
-      → record { roles = p .roles; users = table; persons = set (p .persons) (c .users) (record { clearance = clearance; roles = none }); assigns = p .assigns; revokes = p .revokes; goals = p .goals; counts = p .counts }
+      → record { refusal = p .refusal; line = p .line; roles = p .roles; users = table; persons = set (p .persons) (c .users) (record { clearance = clearance; roles = none }); assigns = p .assigns; revokes = p .revokes; goals = p .goals; counts = p .counts }
       ≡ laidWith (countsOf nothing) (added (r .said) (Entry.User name clearance))
   unfolding laidWith added
   laid-user name clearance room put empty = λ i. record {
+    refusal = r .laid i .refusal;
+    line = r .laid i .line;
     roles = r .laid i .roles;
     users = (put ∙ ap₂ (λ (t : List ℕ) (k : ℕ). stored t k name) (user-table r) (user-count r) ∙ store-name 512 (r .said .users) name (omega (arith, user-count r))) i;
     persons = (ap (λ (s : RoleSet). set (p .persons) (c .users) (record { clearance = clearance; roles = s })) empty
@@ -327,10 +328,12 @@ module _ {text : List ℕ} {at number : ℕ} {p : Policy} {c : Counts} (r : Reac
       ∙ read-old 64 nobody (r .said .holdings) user past (omega (arith, user-count r, r .bounded .holdings)) ∙ getD-any (r .said .holdings) user past nobody (omega (arith, user-count r, r .bounded .holdings))
 
   pub laid-has : (user role : ℕ) {held : Person} {more : RoleSet} → user < c .users → held ≡ person (r .said .holdings) user → more ≡ withOf (held .roles) role
-      → record { roles = p .roles; users = p .users; persons = set (p .persons) user (record { clearance = held .clearance; roles = more }); assigns = p .assigns; revokes = p .revokes; goals = p .goals; counts = p .counts }
+      → record { refusal = p .refusal; line = p .line; roles = p .roles; users = p .users; persons = set (p .persons) user (record { clearance = held .clearance; roles = more }); assigns = p .assigns; revokes = p .revokes; goals = p .goals; counts = p .counts }
       ≡ laidWith (countsOf nothing) (added (r .said) (Entry.Has user role))
   unfolding laidWith added granted holding
   laid-has user role {held} here is with-it = λ i. record {
+    refusal = r .laid i .refusal;
+    line = r .laid i .line;
     roles = r .laid i .roles;
     users = r .laid i .users;
     persons = (ap (λ (s : RoleSet). set (p .persons) user (record { clearance = held .clearance; roles = s })) with-it
@@ -356,9 +359,11 @@ module _ {text : List ℕ} {at number : ℕ} {p : Policy} {c : Counts} (r : Reac
   counts-assign rule = λ i. record { stage = 4; roles = r .counted i .roles; users = r .counted i .users; assigns = more-one (r .said .assigns) rule (ap (λ (d : Counts). d .assigns) (r .counted)) i; revokes = r .counted i .revokes; goals = r .counted i .goals }
 
   pub laid-assign : (rule : Assign) → c .assigns < 256
-      → record { roles = p .roles; users = p .users; persons = p .persons; assigns = set (p .assigns) (c .assigns) rule; revokes = p .revokes; goals = p .goals; counts = p .counts } ≡ laidWith (countsOf nothing) (added (r .said) (Entry.Assign rule))
+      → record { refusal = p .refusal; line = p .line; roles = p .roles; users = p .users; persons = p .persons; assigns = set (p .assigns) (c .assigns) rule; revokes = p .revokes; goals = p .goals; counts = p .counts } ≡ laidWith (countsOf nothing) (added (r .said) (Entry.Assign rule))
   unfolding laidWith added countsOf
   laid-assign rule room = λ i. record {
+    refusal = r .laid i .refusal;
+    line = r .laid i .line;
     roles = r .laid i .roles;
     users = r .laid i .users;
     persons = r .laid i .persons;
@@ -373,9 +378,11 @@ module _ {text : List ℕ} {at number : ℕ} {p : Policy} {c : Counts} (r : Reac
   counts-revoke rule = λ i. record { stage = 5; roles = r .counted i .roles; users = r .counted i .users; assigns = r .counted i .assigns; revokes = more-one (r .said .revokes) rule (ap (λ (d : Counts). d .revokes) (r .counted)) i; goals = r .counted i .goals }
 
   pub laid-revoke : (rule : Revoke) → c .revokes < 256
-      → record { roles = p .roles; users = p .users; persons = p .persons; assigns = p .assigns; revokes = set (p .revokes) (c .revokes) rule; goals = p .goals; counts = p .counts } ≡ laidWith (countsOf nothing) (added (r .said) (Entry.Revoke rule))
+      → record { refusal = p .refusal; line = p .line; roles = p .roles; users = p .users; persons = p .persons; assigns = p .assigns; revokes = set (p .revokes) (c .revokes) rule; goals = p .goals; counts = p .counts } ≡ laidWith (countsOf nothing) (added (r .said) (Entry.Revoke rule))
   unfolding laidWith added countsOf
   laid-revoke rule room = λ i. record {
+    refusal = r .laid i .refusal;
+    line = r .laid i .line;
     roles = r .laid i .roles;
     users = r .laid i .users;
     persons = r .laid i .persons;
@@ -390,9 +397,11 @@ module _ {text : List ℕ} {at number : ℕ} {p : Policy} {c : Counts} (r : Reac
   counts-goal goal = λ i. record { stage = 6; roles = r .counted i .roles; users = r .counted i .users; assigns = r .counted i .assigns; revokes = r .counted i .revokes; goals = more-one (r .said .goals) goal (ap (λ (d : Counts). d .goals) (r .counted)) i }
 
   pub laid-goal : (goal : RoleSet) → c .goals < 32
-      → record { roles = p .roles; users = p .users; persons = p .persons; assigns = p .assigns; revokes = p .revokes; goals = set (p .goals) (c .goals) goal; counts = p .counts } ≡ laidWith (countsOf nothing) (added (r .said) (Entry.Goal goal))
+      → record { refusal = p .refusal; line = p .line; roles = p .roles; users = p .users; persons = p .persons; assigns = p .assigns; revokes = p .revokes; goals = set (p .goals) (c .goals) goal; counts = p .counts } ≡ laidWith (countsOf nothing) (added (r .said) (Entry.Goal goal))
   unfolding laidWith added countsOf
   laid-goal goal room = λ i. record {
+    refusal = r .laid i .refusal;
+    line = r .laid i .line;
     roles = r .laid i .roles;
     users = r .laid i .users;
     persons = r .laid i .persons;
@@ -403,6 +412,6 @@ module _ {text : List ℕ} {at number : ℕ} {p : Policy} {c : Counts} (r : Reac
   }
 
   -- with the counts stored
-  pub laid-counts : record { roles = p .roles; users = p .users; persons = p .persons; assigns = p .assigns; revokes = p .revokes; goals = p .goals; counts = c } ≡ laidOut (r .said)
+  pub laid-counts : record { refusal = p .refusal; line = p .line; roles = p .roles; users = p .users; persons = p .persons; assigns = p .assigns; revokes = p .revokes; goals = p .goals; counts = c } ≡ laidOut (r .said)
   unfolding laidWith laidOut
-  laid-counts = λ i. record { roles = r .laid i .roles; users = r .laid i .users; persons = r .laid i .persons; assigns = r .laid i .assigns; revokes = r .laid i .revokes; goals = r .laid i .goals; counts = r .counted i }
+  laid-counts = λ i. record { refusal = r .laid i .refusal; line = r .laid i .line; roles = r .laid i .roles; users = r .laid i .users; persons = r .laid i .persons; assigns = r .laid i .assigns; revokes = r .laid i .revokes; goals = r .laid i .goals; counts = r .counted i }

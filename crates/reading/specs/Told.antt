@@ -8,7 +8,6 @@ use Rattle.text.specs.declared.Name.{Name}
 use Rattle.text.specs.Names.{wordsOf, rows}
 use Rattle.reading.specs.declared.lines.Counts.{Counts}
 use Rattle.reading.specs.declared.policy.Policy.{Policy}
-use Rattle.reading.specs.declared.policy.PolicyRead.{PolicyRead}
 use Rattle.reading.specs.Texts.{Reading, read, refused}
 use Rattle.reading.specs.Policy.{Said, countsOf, readPolicy, padded, laidWith, laidOut, refusedPolicy, answerOf, policyRead}
 use Rattle.reading.specs.Reached.{Bounded, table-room, table-names}
@@ -16,14 +15,14 @@ use Rattle.reading.specs.Kept.{read-bounded}
 use Rattle.reading.specs.PolicyExact.{PolicyRefusal, policy-refusal-exact}
 
 -- the text is read, and the record has what it says
-pub record Told (text : List ℕ) (R : PolicyRead) : Type 0 where
+pub record Told (text : List ℕ) (R : Policy) : Type 0 where
   pub said : Said
   pub is : readPolicy text ≡ read said
-  pub laid : R .policy ≡ laidOut said
+  pub laid : R ≡ laidOut said
   pub bounded : Bounded said
 
 -- the text is refused, and the record has the number and the line
-pub record Untold (text : List ℕ) (R : PolicyRead) : Type 0 where
+pub record Untold (text : List ℕ) (R : Policy) : Type 0 where
   pub is : readPolicy text ≡ refused (R .refusal) (R .line)
 
 -- no refusal has the number 0
@@ -35,21 +34,21 @@ refusal-number (PolicyRefusal.undeclared at bad) e = omega arith
 refusal-number (PolicyRefusal.no-end fits above tail) e = omega arith
 refusal-number (PolicyRefusal.after-end at ends) e = omega arith
 
-pub told : (text : List ℕ) {R : PolicyRead} → R ≡ policyRead text → R .refusal ≡ 0 → Told text R
+pub told : (text : List ℕ) {R : Policy} → R ≡ policyRead text → R .refusal ≡ 0 → Told text R
 unfolding policyRead answerOf refusedPolicy
 told text {R} given none = go (readPolicy text) refl (given ∙ refl)
   where
     go : (r : Reading Said) → readPolicy text ≡ r → R ≡ answerOf r → Told text R
-    go (read s) is laid = record { said = s; is = is; laid = ap (λ (q : PolicyRead). q .policy) laid; bounded = read-bounded text s is }
-    go (refused k n) is laid = absurd (refusal-number (policy-refusal-exact text k n .0 is) (sym (ap (λ (q : PolicyRead). q .refusal) laid) ∙ none))
+    go (read s) is laid = record { said = s; is = is; laid = laid; bounded = read-bounded text s is }
+    go (refused k n) is laid = absurd (refusal-number (policy-refusal-exact text k n .0 is) (sym (ap (λ (q : Policy). q .refusal) laid) ∙ none))
 
-pub untold : (text : List ℕ) {R : PolicyRead} → R ≡ policyRead text → (R .refusal ≡ 0 → ⊥) → Untold text R
-unfolding policyRead answerOf refusedPolicy
+pub untold : (text : List ℕ) {R : Policy} → R ≡ policyRead text → (R .refusal ≡ 0 → ⊥) → Untold text R
+unfolding policyRead answerOf refusedPolicy laidOut laidWith
 untold text {R} given some = go (readPolicy text) refl (given ∙ refl)
   where
     go : (r : Reading Said) → readPolicy text ≡ r → R ≡ answerOf r → Untold text R
-    go (read s) is laid = absurd (some (ap (λ (q : PolicyRead). q .refusal) laid))
-    go (refused k n) is laid = record { is = is ∙ sym (ap₂ refused (ap (λ (q : PolicyRead). q .refusal) laid) (ap (λ (q : PolicyRead). q .line) laid)) }
+    go (read s) is laid = absurd (some (ap (λ (q : Policy). q .refusal) laid))
+    go (refused k n) is laid = record { is = is ∙ sym (ap₂ refused (ap (λ (q : Policy). q .refusal) laid) (ap (λ (q : Policy). q .line) laid)) }
 
 -- the tables and the counts of a policy that is laid out
 module _ (s : Said) (bounded : Bounded s) {p : Policy} (laid : p ≡ laidOut s) where

@@ -1,6 +1,7 @@
 // A whole policy text, read line by line into arrays.
 ghost use mathlib.Core.Path.{_≡_};
-ghost use Rattle.reading.specs.Policy.{laidOut, nothing, codeOf, refusedPolicy, policyRead};
+ghost use Rattle.reading.specs.Policy.{codeOf, refusedPolicy, policyRead};
+ghost use Rattle.reading.specs.Header.{hasHeader};
 use crate::lines::Counts;
 use crate::lines::Entry;
 use crate::lines::PolicyLine;
@@ -10,33 +11,39 @@ use model::Person;
 use model::Revoke;
 use roles::RoleSet;
 
-// A policy: tables of the role names and the user names, each user's clearance and roles, the rules and the goals, with zeros
-// past their counts.
+// What reading a policy text gives: the refusal's number and line, 0 and 0 where the text is read; then the policy: each user's
+// clearance and roles, the rules and the goals, tables of the role names and the user names, with zeros past their counts. A
+// refused text has the policy of no lines.
 pub struct Policy {
-    pub roles: [u64; 512],
-    pub users: [u64; 512],
+    pub refusal: u64,
+    pub line: usize,
     pub persons: [Person; 64],
     pub assigns: [Assign; 256],
     pub revokes: [Revoke; 256],
     pub goals: [RoleSet; 32],
+    pub roles: [u64; 512],
+    pub users: [u64; 512],
     pub counts: Counts,
 }
 
-// What reading a policy gives: the refusal's number and line, 0 where the text is read, and then the policy.
-pub struct PolicyRead {
-    pub refusal: u64,
-    pub line: usize,
-    pub policy: Policy,
+// Whether the first line is the header of a policy, with its LF.
+pub fn has_header(text: &[u8]) -> bool
+    ensures { λ r. ⌜ r ≡ hasHeader (now (text .entry)) ⌝ }
+{
+    if text.len() < 8 {
+        return false;
+    }
+    text::same(&text[0..8], b"arbac\t1\n")
 }
 
-// The policy of no lines.
-fn no_policy() -> Policy
-    ensures { λ r. ⌜ r ≡ laidOut nothing ⌝ }
+// A refusal, 0 and 0 for none, with the policy of no lines.
+fn refused(refusal: u64, line: usize) -> Policy
+    ensures { λ r. ⌜ r ≡ refusedPolicy refusal line ⌝ }
 {
     let none = RoleSet::empty();
     Policy {
-        roles: [0; 512],
-        users: [0; 512],
+        refusal,
+        line,
         persons: [Person {
             clearance: false,
             roles: none,
@@ -52,6 +59,8 @@ fn no_policy() -> Policy
             target: 0,
         }; 256],
         goals: [none; 32],
+        roles: [0; 512],
+        users: [0; 512],
         counts: Counts {
             stage: 0,
             roles: 0,
@@ -60,18 +69,6 @@ fn no_policy() -> Policy
             revokes: 0,
             goals: 0,
         },
-    }
-}
-
-// A refusal, with the policy of no lines.
-fn refused(refusal: u64, line: usize) -> PolicyRead
-    ensures { λ r. ⌜ r ≡ refusedPolicy refusal line ⌝ }
-{
-    let policy = no_policy();
-    PolicyRead {
-        refusal,
-        line,
-        policy,
     }
 }
 
@@ -86,14 +83,14 @@ fn code(answer: PolicyLine) -> u64
 }
 
 // A policy text. The first bad line decides the refusal.
-pub fn read_policy(text: &[u8]) -> PolicyRead
+pub fn read_policy(text: &[u8]) -> Policy
     ensures { λ r. ⌜ r ≡ policyRead (now (text .entry)) ⌝ }
 {
     let end = text.len();
     if 32768 < end {
         return refused(10, 0);
     }
-    let mut p = no_policy();
+    let mut p = refused(0, 0);
     let mut c = p.counts;
     let mut at = 0;
     let mut number = 1;
@@ -163,11 +160,7 @@ pub fn read_policy(text: &[u8]) -> PolicyRead
                     return refused(11, number);
                 }
                 p.counts = c;
-                return PolicyRead {
-                    refusal: 0,
-                    line: 0,
-                    policy: p,
-                };
+                return p;
             }
         }
     }

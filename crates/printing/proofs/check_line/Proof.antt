@@ -1,31 +1,35 @@
 -- `check_line` makes the line apart and copies it where there is room for it.
 use lib.Dec.{lit≤}
 use native.Mathlib.Omega.{arith}
-use Rattle.printing.specs.LineTold.{users-room, line-told, too-short, taken-length, fits, counted}
+use Rattle.printing.specs.LineTold.{line-told, too-short, taken-length, fits, counted}
 use borrow.Author.Needs.{needs}
 use Rattle.printing.proofs.check_line.Statement.{statement}
 use Rattle.printing.proofs.check_line.Tie as tie
 
-read-policy-requires : tie.Need-read-policy-requires
-read-policy-requires c κs = search needs
-
-answer-to-requires : tie.Need-answer-to-requires
-answer-to-requires c κs = search needs
+named-answer-requires : tie.Need-named-answer-requires
+named-answer-requires c κs = search needs
 
 slice-aggregate-write-line : tie.Need-slice-aggregate-write-line
 slice-aggregate-write-line c = search needs
 
 write-line-requires : tie.Need-write-line-requires
-write-line-requires c κs = (lit≤ tt, users-room (c .before .before .before .before .before .before .before .before .before .before .args .policy .now) (c .before .before .before .before .before .before .read-policy .ensures))
+write-line-requires c κs = lit≤ tt
 
 returns : tie.Need-returns
-returns c = counted _ _ (too-short (line-told (c .before .before .before .before .before .before .before .before .before .before .before .before .before .args .policy .now) (c .before .before .before .before .before .before .before .before .before .read-policy .ensures) (c .before .before .before .before .before .before .before .before .before .before .before .before .before .args .evidence .now) (c .before .before .before .before .before .before .before .before .answer-to .ensures (c .before .before .before .before .before .before .before .before .before .before .before .before .before .args .policy .now) (c .before .before .before .before .before .before .before .before .before .read-policy .ensures))) (c .before .before .write-line .ensures) (c .before .before .before .before .before .before .before .before .before .before .before .before .before .args .out .now) (c .if1 .taken))
+returns c =
+    let start = c .before .before .before .before .before .before .before .before .before in
+    let wrote = line-told (start .args .policy .now) (start .args .evidence .now) (c .before .before .before .before .before .named-answer .ensures) (c .before .before .write-line .ensures) in
+    counted _ _ (too-short wrote (start .args .out .now) (c .if1 .taken))
 
 array-share-prefix-line : tie.Need-array-share-prefix-line
-array-share-prefix-line c = search needs
+array-share-prefix-line c =
+    let start = c .before .before .before .before .before .before .before .before .before .before in
+    omega (arith, line-told (start .args .policy .now) (start .args .evidence .now) (c .before .before .before .before .before .before .named-answer .ensures) (c .before .before .before .write-line .ensures) .few)
 
 slice-aggregate-write-bytes : tie.Need-slice-aggregate-write-bytes
-slice-aggregate-write-bytes c = taken-length (line-told (c .before .before .before .before .before .before .before .before .before .before .before .before .before .before .before .args .policy .now) (c .before .before .before .before .before .before .before .before .before .before .before .read-policy .ensures) (c .before .before .before .before .before .before .before .before .before .before .before .before .before .before .before .args .evidence .now) (c .before .before .before .before .before .before .before .before .before .before .answer-to .ensures (c .before .before .before .before .before .before .before .before .before .before .before .before .before .before .before .args .policy .now) (c .before .before .before .before .before .before .before .before .before .before .before .read-policy .ensures))) (c .before .before .before .before .write-line .ensures)
+slice-aggregate-write-bytes c =
+    let start = c .before .before .before .before .before .before .before .before .before .before .before in
+    taken-length (line-told (start .args .policy .now) (start .args .evidence .now) (c .before .before .before .before .before .before .before .named-answer .ensures) (c .before .before .before .before .write-line .ensures))
 
 write-bytes-requires : tie.Need-write-bytes-requires
 write-bytes-requires c κs = omega (arith, slice-aggregate-write-bytes c, c .before .before .if1 .left)
@@ -34,14 +38,16 @@ same-length : tie.Need-same-length
 same-length c = search needs
 
 returns-2 : tie.Need-returns-2
-returns-2 c = counted _ _ (fits (line-told (c .before .before .before .before .before .before .before .before .before .before .before .before .before .before .before .before .before .before .args .policy .now) (c .before .before .before .before .before .before .before .before .before .before .before .before .before .before .read-policy .ensures) (c .before .before .before .before .before .before .before .before .before .before .before .before .before .before .before .before .before .before .args .evidence .now) (c .before .before .before .before .before .before .before .before .before .before .before .before .before .answer-to .ensures (c .before .before .before .before .before .before .before .before .before .before .before .before .before .before .before .before .before .before .args .policy .now) (c .before .before .before .before .before .before .before .before .before .before .before .before .before .before .read-policy .ensures))) (c .before .before .before .before .before .before .before .write-line .ensures) (c .before .before .before .before .before .before .before .before .before .before .before .before .before .before .before .before .before .before .args .out .now) (c .before .before .before .before .before .if1 .left) (c .before .before .write-bytes .ensures))
+returns-2 c =
+    let start = c .before .before .before .before .before .before .before .before .before .before .before .before .before .before in
+    let wrote = line-told (start .args .policy .now) (start .args .evidence .now) (c .before .before .before .before .before .before .before .before .before .before .named-answer .ensures) (c .before .before .before .before .before .before .before .write-line .ensures) in
+    counted _ _ (fits wrote (start .args .out .now) (c .before .before .before .before .before .if1 .left) (c .before .before .write-bytes .ensures))
 
 pub check-line-spec : {M : Type 1} → statement M
 check-line-spec =
     tie.close
     (tie.spec
-    read-policy-requires
-    answer-to-requires
+    named-answer-requires
     slice-aggregate-write-line
     write-line-requires
     returns

@@ -1,6 +1,5 @@
 -- `write_line` is the line of each answer.
 use lib.Dec.{lit≤}
-use Rattle.text.specs.Names.{rows}
 use Rattle.printing.specs.Line.{lineOf}
 use Rattle.printing.specs.LineSteps.{known-line, attacked-name}
 use borrow.Author.Needs.{needs}
@@ -15,9 +14,6 @@ safe-line-requires c κs = search needs
 
 enum-known-answer-2 : tie.Need-enum-known-answer-2
 enum-known-answer-2 c = search needs
-
-name-at-requires : tie.Need-name-at-requires
-name-at-requires c κs = search needs
 
 attacked-line-requires : tie.Need-attacked-line-requires
 attacked-line-requires c κs = search needs
@@ -56,41 +52,41 @@ same-length : tie.Need-same-length
 same-length c = search needs
 
 returns : tie.Need-returns
-returns c = known-line (rows (c .before .before .before .before .before .before .before .before .before .args .count) (c .before .before .before .before .before .before .before .before .before .args .users .now)) (c .before .before .before .before .before .answer .given .1) (lit≤ tt) (c .before .before .safe-line .ensures (rows (c .before .before .before .before .before .before .before .before .before .args .count) (c .before .before .before .before .before .before .before .before .before .args .users .now)))
+returns c = λ users is. known-line users (c .before .before .before .before .before .answer .given .1) (lit≤ tt) (c .before .before .safe-line .ensures users)
 
 same-length-2 : tie.Need-same-length-2
 same-length-2 c = search needs
 
 returns-2 : tie.Need-returns-2
-returns-2 c = known-line (rows (c .before .before .before .before .before .before .before .before .before .before .args .count) (c .before .before .before .before .before .before .before .before .before .before .args .users .now)) (c .before .before .before .before .before .before .answer2 .given .1) (lit≤ tt) (attacked-name (rows (c .before .before .before .before .before .before .before .before .before .before .args .count) (c .before .before .before .before .before .before .before .before .before .before .args .users .now)) _ _ _ (c .before .before .before .name-at .ensures) (c .before .before .attacked-line .ensures))
+returns-2 c = λ users is. known-line users (c .before .before .before .before .before .answer2 .given .1) (lit≤ tt) (attacked-name users (c .before .before .before .before .before .answer2 .given .1) is (c .before .before .attacked-line .ensures))
 
 same-length-3 : tie.Need-same-length-3
 same-length-3 c = search needs
 
 returns-3 : tie.Need-returns-3
 unfolding lineOf
-returns-3 c = known-line (rows (c .before .before .before .before .before .before .before .before .before .args .count) (c .before .before .before .before .before .before .before .before .before .args .users .now)) (c .before .before .before .before .before .answer3 .given .1) (lit≤ tt) (c .before .before .unproved-line .ensures)
+returns-3 c = λ users is. known-line users (c .before .before .before .before .before .answer3 .given .1) (lit≤ tt) (c .before .before .unproved-line .ensures)
 
 same-length-4 : tie.Need-same-length-4
 same-length-4 c = search needs
 
 returns-4 : tie.Need-returns-4
 unfolding lineOf
-returns-4 c = known-line (rows (c .before .before .before .before .before .before .before .before .before .before .args .count) (c .before .before .before .before .before .before .before .before .before .before .args .users .now)) (c .before .before .before .before .before .before .answer4 .given .1) (lit≤ tt) (c .before .before .number-line .ensures)
+returns-4 c = λ users is. known-line users (c .before .before .before .before .before .before .answer4 .given .1) (lit≤ tt) (c .before .before .number-line .ensures)
 
 same-length-5 : tie.Need-same-length-5
 same-length-5 c = search needs
 
 returns-5 : tie.Need-returns-5
 unfolding lineOf
-returns-5 c = known-line (rows (c .before .before .before .before .before .before .before .before .before .before .args .count) (c .before .before .before .before .before .before .before .before .before .before .args .users .now)) (c .before .before .before .before .before .before .answer5 .given .1) (lit≤ tt) (c .before .before .number-line2 .ensures)
+returns-5 c = λ users is. known-line users (c .before .before .before .before .before .before .answer5 .given .1) (lit≤ tt) (c .before .before .number-line2 .ensures)
 
 same-length-6 : tie.Need-same-length-6
 same-length-6 c = search needs
 
 returns-6 : tie.Need-returns-6
 unfolding lineOf
-returns-6 c = known-line (rows (c .before .before .before .before .before .before .before .before .before .args .count) (c .before .before .before .before .before .before .before .before .before .args .users .now)) (c .before .before .before .before .before .answer6 .given .1) (lit≤ tt) (c .before .before .refused-line .ensures)
+returns-6 c = λ users is. known-line users (c .before .before .before .before .before .answer6 .given .1) (lit≤ tt) (c .before .before .refused-line .ensures)
 
 pub write-line-spec : {M : Type 1} → statement M
 write-line-spec =
@@ -99,7 +95,6 @@ write-line-spec =
     enum-known-answer
     safe-line-requires
     enum-known-answer-2
-    name-at-requires
     attacked-line-requires
     enum-known-answer-3
     unproved-line-requires

@@ -15,26 +15,32 @@ read-policy-requires c κs = search needs
 returns : tie.Need-returns
 returns c = meets-leaving (sum-policy-refused _ _ _ _ (untold _ (c .before .before .read-policy .ensures) (c .if1 .taken) .is))
 
+slice-aggregate-read-typing : tie.Need-slice-aggregate-read-typing
+slice-aggregate-read-typing c = search needs
+
 read-typing-requires : tie.Need-read-typing-requires
 read-typing-requires c κs =
-    let read = c .before .before .before .before in
+    let read = c .before .before in
     table-room (told-laid (told _ (read .before .before .read-policy .ensures) (read .if1 .left)))
 
 returns-2 : tie.Need-returns-2
 returns-2 c =
-    let read = c .before .before .before .before .before .before .before in
+    let read = c .before .before .before .before .before in
     let p = told _ (read .before .before .read-policy .ensures) (read .if1 .left) in
     meets-leaving (sum-first-refused _ _ _ _ (p .is) (typing-refused (told-laid p) _ (c .before .before .read-typing .ensures) (c .if2 .taken)))
 
+slice-aggregate-read-typing-2 : tie.Need-slice-aggregate-read-typing-2
+slice-aggregate-read-typing-2 c = slice-aggregate-read-typing (c .before .before .before .before)
+
 read-typing-requires-2 : tie.Need-read-typing-requires-2
 read-typing-requires-2 c κs =
-    let read = c .before .before .before .before .before .before .before .before .before .before in
+    let read = c .before .before .before .before .before .before in
     table-room (told-laid (told _ (read .before .before .read-policy .ensures) (read .if1 .left)))
 
 returns-3 : tie.Need-returns-3
 returns-3 c =
-    let first = c .before .before .before .before .before .before in
-    let read = first .before .before .before .before .before .before .before in
+    let first = c .before .before .before .before in
+    let read = first .before .before .before .before .before in
     let p = told _ (read .before .before .read-policy .ensures) (read .if1 .left) in
     let t = typing-read (told-laid p) _ (first .before .before .read-typing .ensures) (first .if2 .left) in
     meets-leaving (sum-second-refused _ _ _ _ (p .is) (t .is) (typing-refused (told-laid p) _ (c .before .before .read-typing2 .ensures) (c .if3 .taken)))
@@ -44,7 +50,7 @@ sum-of-requires c κs = search needs
 
 write-sum-requires : tie.Need-write-sum-requires
 write-sum-requires c κs =
-    let read = c .before .before .before .before .before .before .before .before .before .before .before .before .before .before .before .before .before in
+    let read = c .before .before .before .before .before .before .before .before .before .before .before .before .before in
     limited (told-laid (told _ (read .before .before .read-policy .ensures) (read .if1 .left)))
 
 same-length : tie.Need-same-length
@@ -54,8 +60,8 @@ returns-4 : tie.Need-returns-4
 returns-4 c =
     let added = c .before .before .before .before in
     let second = added .before .before .before in
-    let first = second .before .before .before .before .before .before in
-    let read = first .before .before .before .before .before .before .before in
+    let first = second .before .before .before .before in
+    let read = first .before .before .before .before .before in
     let p = told _ (read .before .before .read-policy .ensures) (read .if1 .left) in
     let t = typing-read (told-laid p) _ (first .before .before .read-typing .ensures) (first .if2 .left) in
     let u = typing-read (told-laid p) _ (second .before .before .read-typing2 .ensures) (second .if3 .left) in
@@ -67,8 +73,10 @@ sum-spec =
     (tie.spec
     read-policy-requires
     returns
+    slice-aggregate-read-typing
     read-typing-requires
     returns-2
+    slice-aggregate-read-typing-2
     read-typing-requires-2
     returns-3
     sum-of-requires

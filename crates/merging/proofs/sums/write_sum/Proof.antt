@@ -1,11 +1,17 @@
 -- `write_sum` answers by the length that is written, which is 0 where the text does not fit.
+use native.Mathlib.Omega.{arith}
 use Rattle.merging.specs.SumOutcomes.{sum-unwritten, sum-written}
 use borrow.Author.Needs.{needs}
 use Rattle.merging.proofs.sums.write_sum.Statement.{statement}
 use Rattle.merging.proofs.sums.write_sum.Tie as tie
 
+slice-aggregate-write-fitting : tie.Need-slice-aggregate-write-fitting
+slice-aggregate-write-fitting c = search needs
+
 write-fitting-requires : tie.Need-write-fitting-requires
-write-fitting-requires c κs = search needs
+write-fitting-requires c κs =
+    let few = c .before .before .before .before .pre .roles in
+    (omega (arith, slice-aggregate-write-fitting c, few), few)
 
 same-length : tie.Need-same-length
 same-length c = search needs
@@ -25,4 +31,4 @@ returns-2 c = λ s l. sum-written l _ _ (c .before .before .before .before .writ
 pub write-sum-spec : {M : Type 1} → statement M
 write-sum-spec =
     tie.close
-    (tie.spec write-fitting-requires same-length returns pinned-requires same-length-2 returns-2)
+    (tie.spec slice-aggregate-write-fitting write-fitting-requires same-length returns pinned-requires same-length-2 returns-2)

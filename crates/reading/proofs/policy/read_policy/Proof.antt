@@ -27,20 +27,20 @@ returns : tie.Need-returns Inv-loop μ-loop
 unfolding policyRead readPolicy answerOf
 returns c = c .refused .ensures ∙ sym (ap answerOf (text-long judgeLine 11 10 nothing _ (c .before .if1 .taken)))
 
-no-policy-requires : tie.Need-no-policy-requires Inv-loop μ-loop
-no-policy-requires c κs = search needs
+refused-requires-2 : tie.Need-refused-requires-2 Inv-loop μ-loop
+refused-requires-2 c κs = search needs
 
 loop-holds : tie.Need-loop-holds Inv-loop μ-loop
-loop-holds c = reached-start _ (c .before .before .if1 .left) (c .before .no-policy .ensures)
+loop-holds c = reached-start _ (c .before .before .if1 .left) (c .before .refused2 .ensures)
 
 seek-requires : tie.Need-seek-requires Inv-loop μ-loop
 seek-requires c κs = (c .before .loop .inv) .on .within
 
-refused-requires-2 : tie.Need-refused-requires-2 Inv-loop μ-loop
-refused-requires-2 c κs = search needs
+refused-requires-3 : tie.Need-refused-requires-3 Inv-loop μ-loop
+refused-requires-3 c κs = search needs
 
 returns-2 : tie.Need-returns-2 Inv-loop μ-loop
-returns-2 c = c .refused2 .ensures ∙ reached-tail (c .before .before .before .before .loop .inv) (c .before .before .seek .ensures) (c .before .if2 .taken)
+returns-2 c = c .refused3 .ensures ∙ reached-tail (c .before .before .before .before .loop .inv) (c .before .before .seek .ensures) (c .before .if2 .taken)
 
 sub-read-line : tie.Need-sub-read-line Inv-loop μ-loop
 sub-read-line c = omega (arith, c .before .seek .ensures)
@@ -69,12 +69,12 @@ enum-told c = search needs
 code-requires : tie.Need-code-requires Inv-loop μ-loop
 code-requires c κs = search needs
 
-refused-requires-3 : tie.Need-refused-requires-3 Inv-loop μ-loop
-refused-requires-3 c κs = search needs
+refused-requires-4 : tie.Need-refused-requires-4 Inv-loop μ-loop
+refused-requires-4 c κs = search needs
 
 returns-3 : tie.Need-returns-3 Inv-loop μ-loop
 unfolding codeOf
-returns-3 c = c .refused3 .ensures ∙ ap (λ (k : ℕ). refusedPolicy k (c .before .before .before .before .before .before .before .before .before .before .before .before .before .before .loop .number)) (c .before .code .ensures ∙ ap codeOf (c .before .before .enum-told .given .1)) ∙ line-refused (c .before .before .before .before .before .before .before .before .before .before .before .before .before .before .loop .inv) (c .before .before .before .before .before .before .before .before .before .before .before .before .seek .ensures) (omega (arith, c .before .before .before .before .before .before .before .before .before .before .before .before .seek .ensures, c .before .before .before .before .before .before .before .before .before .before .before .if2 .left)) (c .before .before .before .before .read-line .ensures) (c .before .before .enum-told .given .1)
+returns-3 c = c .refused4 .ensures ∙ ap (λ (k : ℕ). refusedPolicy k (c .before .before .before .before .before .before .before .before .before .before .before .before .before .before .loop .number)) (c .before .code .ensures ∙ ap codeOf (c .before .before .enum-told .given .1)) ∙ line-refused (c .before .before .before .before .before .before .before .before .before .before .before .before .before .before .loop .inv) (c .before .before .before .before .before .before .before .before .before .before .before .before .seek .ensures) (omega (arith, c .before .before .before .before .before .before .before .before .before .before .before .before .seek .ensures, c .before .before .before .before .before .before .before .before .before .before .before .if2 .left)) (c .before .before .before .before .read-line .ensures) (c .before .before .enum-told .given .1)
 
 enum-told-2 : tie.Need-enum-told-2 Inv-loop μ-loop
 enum-told-2 c = search needs
@@ -139,11 +139,11 @@ element-copy-out-person c = omega (arith, (fits-here (c .before .before .before 
 has-requires : tie.Need-has-requires Inv-loop μ-loop
 has-requires c κs = search needs
 
-refused-requires-4 : tie.Need-refused-requires-4 Inv-loop μ-loop
-refused-requires-4 c κs = search needs
+refused-requires-5 : tie.Need-refused-requires-5 Inv-loop μ-loop
+refused-requires-5 c κs = search needs
 
 returns-4 : tie.Need-returns-4 Inv-loop μ-loop
-returns-4 c = c .refused4 .ensures ∙ holding-repeated (c .before .before .before .before .before .before .before .before .before .before .before .before .before .before .before .before .before .before .before .before .before .loop .inv) (c .before .before .before .before .before .before .before .before .before .before .before .before .before .before .before .before .before .before .before .seek .ensures) (omega (arith, c .before .before .before .before .before .before .before .before .before .before .before .before .before .before .before .before .before .before .before .seek .ensures, c .before .before .before .before .before .before .before .before .before .before .before .before .before .before .before .before .before .before .if2 .left)) (c .before .before .before .before .before .before .before .before .before .before .before .read-line .ensures) (c .before .before .before .before .before .before .before .before .before .answer .given .1 ∙ ap PolicyLine.Good (c .before .before .before .before .before .before .entry3 .given .1)) (has-twice (c .before .before .before .before .before .before .before .before .before .before .before .before .before .before .before .before .before .before .before .before .before .loop .inv) _ _ (ap (λ (h : Person). hasRole (h .roles) (c .before .before .before .before .before .before .entry3 .given .0 .1 .0)) (sym (person-held (c .before .before .before .before .before .before .before .before .before .before .before .before .before .before .before .before .before .before .before .before .before .loop .inv) (c .before .before .before .before .before .before .entry3 .given .0 .0) (fits-here (c .before .before .before .before .before .before .before .before .before .before .before .before .before .before .before .before .before .before .before .before .before .loop .inv) (c .before .before .before .before .before .before .before .before .before .before .before .before .before .before .before .before .before .before .before .seek .ensures) (omega (arith, c .before .before .before .before .before .before .before .before .before .before .before .before .before .before .before .before .before .before .before .seek .ensures, c .before .before .before .before .before .before .before .before .before .before .before .before .before .before .before .before .before .before .if2 .left)) (c .before .before .before .before .before .before .before .before .before .before .before .read-line .ensures) (c .before .before .before .before .before .before .before .before .before .answer .given .1 ∙ ap PolicyLine.Good (c .before .before .before .before .before .before .entry3 .given .1))) _)) ∙ sym (c .before .before .has .ensures) ∙ c .before .if3 .taken))
+returns-4 c = c .refused5 .ensures ∙ holding-repeated (c .before .before .before .before .before .before .before .before .before .before .before .before .before .before .before .before .before .before .before .before .before .loop .inv) (c .before .before .before .before .before .before .before .before .before .before .before .before .before .before .before .before .before .before .before .seek .ensures) (omega (arith, c .before .before .before .before .before .before .before .before .before .before .before .before .before .before .before .before .before .before .before .seek .ensures, c .before .before .before .before .before .before .before .before .before .before .before .before .before .before .before .before .before .before .if2 .left)) (c .before .before .before .before .before .before .before .before .before .before .before .read-line .ensures) (c .before .before .before .before .before .before .before .before .before .answer .given .1 ∙ ap PolicyLine.Good (c .before .before .before .before .before .before .entry3 .given .1)) (has-twice (c .before .before .before .before .before .before .before .before .before .before .before .before .before .before .before .before .before .before .before .before .before .loop .inv) _ _ (ap (λ (h : Person). hasRole (h .roles) (c .before .before .before .before .before .before .entry3 .given .0 .1 .0)) (sym (person-held (c .before .before .before .before .before .before .before .before .before .before .before .before .before .before .before .before .before .before .before .before .before .loop .inv) (c .before .before .before .before .before .before .entry3 .given .0 .0) (fits-here (c .before .before .before .before .before .before .before .before .before .before .before .before .before .before .before .before .before .before .before .before .before .loop .inv) (c .before .before .before .before .before .before .before .before .before .before .before .before .before .before .before .before .before .before .before .seek .ensures) (omega (arith, c .before .before .before .before .before .before .before .before .before .before .before .before .before .before .before .before .before .before .before .seek .ensures, c .before .before .before .before .before .before .before .before .before .before .before .before .before .before .before .before .before .before .if2 .left)) (c .before .before .before .before .before .before .before .before .before .before .before .read-line .ensures) (c .before .before .before .before .before .before .before .before .before .answer .given .1 ∙ ap PolicyLine.Good (c .before .before .before .before .before .before .entry3 .given .1))) _)) ∙ sym (c .before .before .has .ensures) ∙ c .before .if3 .taken))
 
 with-requires : tie.Need-with-requires Inv-loop μ-loop
 with-requires c κs = search needs
@@ -220,20 +220,20 @@ loop-again-7 c = line-added (c .before .before .before .before .before .before .
 enum-told-3 : tie.Need-enum-told-3 Inv-loop μ-loop
 enum-told-3 c = search needs
 
-refused-requires-5 : tie.Need-refused-requires-5 Inv-loop μ-loop
-refused-requires-5 c κs = search needs
+refused-requires-6 : tie.Need-refused-requires-6 Inv-loop μ-loop
+refused-requires-6 c κs = search needs
 
 returns-5 : tie.Need-returns-5 Inv-loop μ-loop
-returns-5 c = c .refused5 .ensures ∙ line-more (c .before .before .before .before .before .before .before .before .before .before .before .before .before .before .before .before .before .loop .inv) (c .before .before .before .before .before .before .before .before .before .before .before .before .before .before .before .seek .ensures) (omega (arith, c .before .before .before .before .before .before .before .before .before .before .before .before .before .before .before .seek .ensures, c .before .before .before .before .before .before .before .before .before .before .before .before .before .before .if2 .left)) (c .before .before .before .before .before .before .before .read-line .ensures) (c .before .before .before .before .before .answer .given .1 ∙ ap PolicyLine.Good (c .before .before .enum-told3 .given .1)) (c .before .if4 .taken)
+returns-5 c = c .refused6 .ensures ∙ line-more (c .before .before .before .before .before .before .before .before .before .before .before .before .before .before .before .before .before .loop .inv) (c .before .before .before .before .before .before .before .before .before .before .before .before .before .before .before .seek .ensures) (omega (arith, c .before .before .before .before .before .before .before .before .before .before .before .before .before .before .before .seek .ensures, c .before .before .before .before .before .before .before .before .before .before .before .before .before .before .if2 .left)) (c .before .before .before .before .before .before .before .read-line .ensures) (c .before .before .before .before .before .answer .given .1 ∙ ap PolicyLine.Good (c .before .before .enum-told3 .given .1)) (c .before .if4 .taken)
 
 returns-6 : tie.Need-returns-6 Inv-loop μ-loop
 returns-6 c = line-last (c .before .before .before .before .before .before .before .before .before .before .before .before .before .before .before .before .loop .inv) (c .before .before .before .before .before .before .before .before .before .before .before .before .before .before .seek .ensures) (omega (arith, c .before .before .before .before .before .before .before .before .before .before .before .before .before .before .seek .ensures, c .before .before .before .before .before .before .before .before .before .before .before .before .before .if2 .left)) (c .before .before .before .before .before .before .read-line .ensures) (c .before .before .before .before .answer .given .1 ∙ ap PolicyLine.Good (c .before .enum-told3 .given .1)) (c .if4 .left) (laid-counts (c .before .before .before .before .before .before .before .before .before .before .before .before .before .before .before .before .loop .inv))
 
-refused-requires-6 : tie.Need-refused-requires-6 Inv-loop μ-loop
-refused-requires-6 c κs = search needs
+refused-requires-7 : tie.Need-refused-requires-7 Inv-loop μ-loop
+refused-requires-7 c κs = search needs
 
 returns-7 : tie.Need-returns-7 Inv-loop μ-loop
-returns-7 c = c .refused6 .ensures ∙ reached-end (c .before .before .loop .inv) (c .before .loop-test .left)
+returns-7 c = c .refused7 .ensures ∙ reached-end (c .before .before .loop .inv) (c .before .loop-test .left)
 
 pub read-policy-spec : {M : Type 1} → statement M
 read-policy-spec =
@@ -243,10 +243,10 @@ read-policy-spec =
     μ-loop
     refused-requires
     returns
-    no-policy-requires
+    refused-requires-2
     loop-holds
     seek-requires
-    refused-requires-2
+    refused-requires-3
     returns-2
     sub-read-line
     part-read-line-start
@@ -257,7 +257,7 @@ read-policy-spec =
     enum-known-answer
     enum-told
     code-requires
-    refused-requires-3
+    refused-requires-4
     returns-3
     enum-told-2
     loop-less
@@ -279,7 +279,7 @@ read-policy-spec =
     mul-person
     element-copy-out-person
     has-requires
-    refused-requires-4
+    refused-requires-5
     returns-4
     with-requires
     mul-t46
@@ -305,8 +305,8 @@ read-policy-spec =
     loop-less-7
     loop-again-7
     enum-told-3
-    refused-requires-5
+    refused-requires-6
     returns-5
     returns-6
-    refused-requires-6
+    refused-requires-7
     returns-7)

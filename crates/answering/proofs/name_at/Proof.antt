@@ -1,9 +1,9 @@
 -- `name_at` looks a name up where there is one.
 use mathlib.Core.Path.{_∙_}
-use Rattle.printing.specs.LineSteps.{name-row, name-none}
+use Rattle.answering.specs.Laws.{name-row, name-none}
 use borrow.Author.Needs.{needs}
-use Rattle.printing.proofs.name_at.Statement.{statement}
-use Rattle.printing.proofs.name_at.Tie as tie
+use Rattle.answering.proofs.name_at.Statement.{statement}
+use Rattle.answering.proofs.name_at.Tie as tie
 
 row-requires : tie.Need-row-requires
 row-requires c κs = search needs

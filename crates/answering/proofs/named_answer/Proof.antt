@@ -1,0 +1,44 @@
+-- `named_answer` refuses a policy by its length or its first line, and answers what is read of any other.
+use borrow.Author.Tests.{not-true}
+use mathlib.Core.Path.{sym, _∙_}
+use Rattle.reading.specs.Header.{headless}
+use Rattle.reading.specs.Policy.{nothing, judgeLine, readPolicy}
+use Rattle.reading.specs.Texts.{text-long}
+use Rattle.answering.specs.Laws.{policy-refused}
+use borrow.Author.Needs.{needs}
+use Rattle.answering.proofs.named_answer.Statement.{statement}
+use Rattle.answering.proofs.named_answer.Tie as tie
+
+unnamed-requires : tie.Need-unnamed-requires
+unnamed-requires c κs = search needs
+
+returns : tie.Need-returns
+unfolding readPolicy
+returns c = c .unnamed .ensures ∙ policy-refused _ _ (text-long judgeLine 11 10 nothing _ (c .before .if1 .taken))
+
+has-header-requires : tie.Need-has-header-requires
+has-header-requires c κs = search needs
+
+unnamed-requires-2 : tie.Need-unnamed-requires-2
+unnamed-requires-2 c κs = search needs
+
+returns-2 : tie.Need-returns-2
+returns-2 c = c .unnamed2 .ensures ∙ policy-refused _ _ (headless _ (c .before .before .before .if1 .left) (sym (c .before .before .has-header .ensures) ∙ not-true _ (c .before .if2 .taken)))
+
+answer-read-requires : tie.Need-answer-read-requires
+answer-read-requires c κs = search needs
+
+returns-3 : tie.Need-returns-3
+returns-3 c = search needs
+
+pub named-answer-spec : {M : Type 1} → statement M
+named-answer-spec =
+    tie.close
+    (tie.spec
+    unnamed-requires
+    returns
+    has-header-requires
+    unnamed-requires-2
+    returns-2
+    answer-read-requires
+    returns-3)
