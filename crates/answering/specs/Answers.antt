@@ -7,7 +7,7 @@ use Rattle.text.specs.declared.Name.{Name}
 use Rattle.text.specs.Names.{packed}
 use Rattle.model.specs.declared.Typing.{Typing as Table}
 use Rattle.reading.specs.Texts.{Reading, read, refused}
-use Rattle.reading.specs.declared.lines.Counts.{Counts}
+use Rattle.lines.specs.declared.Counts.{Counts}
 use Rattle.reading.specs.Policy.{Said, countsOf, readPolicy}
 use Rattle.evidence.specs.TypingText.{Typed, readTyping, tableOf}
 use Rattle.evidence.specs.Place.{isTyping}

@@ -10,7 +10,7 @@ use Rattle.text.specs.declared.Name.{Name}
 use Rattle.text.specs.Names.{packed, rowOf, rows, rows-length}
 use Rattle.model.specs.declared.Typing.{Typing as Table}
 use Rattle.reading.specs.Texts.{Reading, read, refused}
-use Rattle.reading.specs.declared.lines.Counts.{Counts}
+use Rattle.lines.specs.declared.Counts.{Counts}
 use Rattle.reading.specs.declared.policy.Policy.{Policy}
 use Rattle.reading.specs.Policy.{Said, countsOf, laidOut, readPolicy}
 use Rattle.reading.specs.Reached.{Bounded}

@@ -12,7 +12,7 @@ use judging::TypingVerdict;
 use judging::judge_typing;
 use judging::pinned;
 use model::Typing;
-use reading::lines::Counts;
+use lines::Counts;
 use reading::policy::has_header;
 use reading::policy::read_policy;
 use running::TraceVerdict;

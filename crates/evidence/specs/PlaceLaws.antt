@@ -14,7 +14,7 @@ use Rattle.text.specs.Forms.{bytes}
 use Rattle.text.specs.Pieces.{part, sameBytes, Sought}
 use Rattle.reading.specs.Texts.{Reading, read, refused}
 use Rattle.text.specs.Names.{rows}
-use Rattle.reading.specs.declared.lines.Counts.{Counts}
+use Rattle.lines.specs.declared.Counts.{Counts}
 use Rattle.reading.specs.declared.policy.Policy.{Policy}
 use Rattle.reading.specs.Policy.{Said, countsOf, laidOut, readPolicy}
 use Rattle.reading.specs.Reached.{Bounded}

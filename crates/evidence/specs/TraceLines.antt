@@ -9,7 +9,7 @@ use Rattle.text.specs.declared.Name.{Name}
 use Rattle.text.specs.Forms.{bytes, isName, numberOf}
 use Rattle.text.specs.Pieces.{split, sameBytes, split-piece}
 use Rattle.steps.specs.declared.Step.{Step}
-use Rattle.reading.specs.Fields.{placed, isDeclared}
+use Rattle.lines.specs.Fields.{placed, isDeclared}
 use Rattle.evidence.specs.declared.trace.TraceEntry.{TraceEntry}
 use Rattle.evidence.specs.declared.trace.TraceLine.{TraceLine}
 use Rattle.evidence.specs.Turns.{turnOf}

@@ -8,8 +8,8 @@ use lib.ListN.{length}
 use Rattle.text.specs.declared.Name.{Name}
 use Rattle.text.specs.Forms.{bytes, isName, isSet, isLabel}
 use Rattle.text.specs.Pieces.{split, sameBytes, split-piece}
-use Rattle.reading.specs.declared.fields.SetRead.{SetRead}
-use Rattle.reading.specs.Fields.{placed, allDeclared, rolesOf, faultOf, setRead, worse, set-fault, roles-read}
+use Rattle.lines.specs.declared.fields.SetRead.{SetRead}
+use Rattle.lines.specs.Fields.{placed, allDeclared, rolesOf, faultOf, setRead, worse, set-fault, roles-read}
 use Rattle.evidence.specs.declared.typing.TypingEntry.{TypingEntry}
 use Rattle.evidence.specs.declared.typing.TypingLine.{TypingLine}
 use Rattle.evidence.specs.Turns.{turnOf, by-fault}

@@ -6,7 +6,7 @@ ghost use Rattle.text.specs.Names.{rows};
 ghost use Rattle.evidence.specs.Place.{isTyping, refusedOver, refusalOf, noSpan, spanOf, badSpan, badPlace, badLine};
 use crate::trace::read_trace;
 use crate::typing::read_typing;
-use reading::lines::Counts;
+use lines::Counts;
 use reading::policy::read_policy;
 
 // A refusal's number and line, both 0 where the texts are read.

@@ -9,7 +9,7 @@ ghost use Rattle.text.specs.Names.{rows};
 ghost use Rattle.evidence.specs.TraceLines.{oneField, twoFields, fourFields, answerTo, judged, traceLine};
 ghost use Rattle.evidence.specs.TraceText.{codeOf, refusedTrace, traceRead};
 use crate::turns::turn;
-use reading::lines::Counts;
+use lines::Counts;
 use steps::Step;
 
 // What a good line says.

@@ -9,8 +9,8 @@ ghost use Rattle.evidence.specs.TypingLines.{Line, oneField, twoFields, 
 ghost use Rattle.evidence.specs.TypingText.{untyped, tableOf, codeOf, refusedTyping, typingRead};
 use crate::turns::turn;
 use model::Typing;
-use reading::fields::read_set;
-use reading::fields::worse;
+use lines::fields::read_set;
+use lines::fields::worse;
 use roles::RoleSet;
 
 // What a good line says: a row's label is true for H.

@@ -7,7 +7,7 @@ use borrow.Author.Tests.{le-leb, lt-leb}
 use lib.ListN.{length}
 use Rattle.model.specs.declared.Typing.{Typing as Table}
 use Rattle.text.specs.Names.{rows}
-use Rattle.reading.specs.declared.lines.Counts.{Counts}
+use Rattle.lines.specs.declared.Counts.{Counts}
 use Rattle.reading.specs.declared.policy.Policy.{Policy}
 use Rattle.reading.specs.Texts.{read, refused}
 use Rattle.reading.specs.Policy.{Said, countsOf, readPolicy}

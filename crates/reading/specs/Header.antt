@@ -10,7 +10,7 @@ use native.Mathlib.Omega.{arith}
 use Rattle.text.specs.Forms.{bytes}
 use Rattle.text.specs.Pieces.{split, onto, sameBytes, same-equal, split-piece}
 use Rattle.reading.specs.Texts.{Judged, bad, refused, onward, readLines, text-fits}
-use Rattle.reading.specs.Lines.{Line, header, role, user, has, assign, revoke, goal, end, other, oneField, twoFields, threeFields, fiveFields, lineOf, inOrder, wellFormed, inTurn, judged, policyLine}
+use Rattle.lines.specs.Lines.{Line, header, role, user, has, assign, revoke, goal, end, other, oneField, twoFields, threeFields, fiveFields, lineOf, inOrder, wellFormed, inTurn, judged, policyLine}
 use Rattle.reading.specs.Policy.{Said, nothing, countsOf, answered, judgeLine, readPolicy}
 use Rattle.reading.specs.PolicyExact.{whole-piece}
 

@@ -9,10 +9,10 @@ use native.Mathlib.Omega.{arith}
 use Rattle.roles.specs.Sets.{hasRole}
 use Rattle.model.specs.Policy.{person}
 use Rattle.text.specs.Pieces.{split}
-use Rattle.reading.specs.declared.lines.Entry.{Entry}
-use Rattle.reading.specs.declared.lines.PolicyLine.{PolicyLine}
+use Rattle.lines.specs.declared.Entry.{Entry}
+use Rattle.lines.specs.declared.PolicyLine.{PolicyLine}
 use Rattle.reading.specs.Texts.{Judged, goes, ends, bad, Reading, read, refused, closing, onward, readLines, readText}
-use Rattle.reading.specs.Lines.{policyLine, Fitting, good-fits}
+use Rattle.lines.specs.Lines.{policyLine, Fitting, good-fits}
 use Rattle.reading.specs.Policy.{Said, nothing, countsOf, added, entered, answered, judgeLine, readPolicy}
 use Rattle.reading.specs.Reached.{Bounded, bounded-nothing, bounded-added}
 

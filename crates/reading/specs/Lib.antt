@@ -1,8 +1,5 @@
 -- How a text is read line by line, and what a policy text is read into.
 pub mod Texts
-pub mod Fields
-pub mod Sets
-pub mod Lines
 pub mod Policy
 pub mod Walk
 pub mod Reached

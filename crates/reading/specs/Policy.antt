@@ -11,12 +11,12 @@ use Rattle.model.specs.declared.Person.{Person}
 use Rattle.model.specs.Policy.{Policy as Rules, State, nobody, person, granted}
 use Rattle.text.specs.declared.Name.{Name}
 use Rattle.text.specs.Names.{wordsOf}
-use Rattle.reading.specs.declared.lines.Counts.{Counts}
-use Rattle.reading.specs.declared.lines.Entry.{Entry}
-use Rattle.reading.specs.declared.lines.PolicyLine.{PolicyLine}
+use Rattle.lines.specs.declared.Counts.{Counts}
+use Rattle.lines.specs.declared.Entry.{Entry}
+use Rattle.lines.specs.declared.PolicyLine.{PolicyLine}
 use Rattle.reading.specs.declared.policy.Policy.{Policy}
 use Rattle.reading.specs.Texts.{Judged, goes, ends, bad, Reading, read, refused, readText}
-use Rattle.reading.specs.Lines.{policyLine}
+use Rattle.lines.specs.Lines.{policyLine}
 
 -- What the lines so far say: the kind of the last one, the names, the holdings, the rules and the goals, each in the order read.
 pub record Said : Type 0 where

@@ -17,13 +17,13 @@ use Rattle.model.specs.Policy.{State, nobody, person, holding, granted}
 use Rattle.text.specs.declared.Name.{Name}
 use Rattle.text.specs.Names.{wordsOf, rows, rows-laid, stored}
 use Rattle.text.specs.Pieces.{part, Sought}
-use Rattle.reading.specs.declared.lines.Counts.{Counts}
-use Rattle.reading.specs.declared.lines.Entry.{Entry}
-use Rattle.reading.specs.declared.lines.PolicyLine.{PolicyLine}
+use Rattle.lines.specs.declared.Counts.{Counts}
+use Rattle.lines.specs.declared.Entry.{Entry}
+use Rattle.lines.specs.declared.PolicyLine.{PolicyLine}
 use Rattle.reading.specs.declared.policy.Policy.{Policy}
 use Rattle.reading.specs.Texts.{Judged, goes, bad}
 use Rattle.reading.specs.Walk.{On, on-start, on-end, on-tail, on-bad, on-goes, on-last, on-more}
-use Rattle.reading.specs.Lines.{policyLine, Fitting, good-fits}
+use Rattle.lines.specs.Lines.{policyLine, Fitting, good-fits}
 use Rattle.reading.specs.Policy.{Said, nothing, countsOf, added, entered, answered, judgeLine, readPolicy, padded, noAssign, noRevoke, laidWith, laidOut, refusedPolicy, answerOf, policyRead}
 
 -- ---- storing one element more

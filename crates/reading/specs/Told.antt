@@ -6,7 +6,7 @@ use lib.ListN.{length}
 use native.Mathlib.Omega.{arith}
 use Rattle.text.specs.declared.Name.{Name}
 use Rattle.text.specs.Names.{wordsOf, rows}
-use Rattle.reading.specs.declared.lines.Counts.{Counts}
+use Rattle.lines.specs.declared.Counts.{Counts}
 use Rattle.reading.specs.declared.policy.Policy.{Policy}
 use Rattle.reading.specs.Texts.{Reading, read, refused}
 use Rattle.reading.specs.Policy.{Said, countsOf, readPolicy, padded, laidWith, laidOut, refusedPolicy, answerOf, policyRead}

@@ -1,4 +1,2 @@
-// Policy texts: names and sets against a table, a line, and the whole text.
-pub mod fields;
-pub mod lines;
+// Policy texts, read line by line into records.
 pub mod policy;

@@ -2,10 +2,10 @@
 ghost use mathlib.Core.Path.{_≡_};
 ghost use Rattle.reading.specs.Policy.{codeOf, refusedPolicy, policyRead};
 ghost use Rattle.reading.specs.Header.{hasHeader};
-use crate::lines::Counts;
-use crate::lines::Entry;
-use crate::lines::PolicyLine;
-use crate::lines::read_line;
+use lines::Counts;
+use lines::Entry;
+use lines::PolicyLine;
+use lines::read_line;
 use model::Assign;
 use model::Person;
 use model::Revoke;

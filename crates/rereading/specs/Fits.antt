@@ -14,7 +14,7 @@ use Rattle.text.specs.declared.Name.{Name}
 use Rattle.text.specs.Forms.{namesOf}
 use Rattle.text.specs.Pieces.{split}
 use Rattle.reading.specs.Texts.{Judged, goes, ends, bad, read}
-use Rattle.reading.specs.Fields.{placed, isDeclared, allDeclared, rolesOf}
+use Rattle.lines.specs.Fields.{placed, isDeclared, allDeclared, rolesOf}
 use Rattle.reading.specs.Kept.{text-keeps}
 use Rattle.reading.specs.Exact.{read-exact}
 use Rattle.evidence.specs.declared.typing.TypingEntry.{TypingEntry}

@@ -12,12 +12,12 @@ use Rattle.text.specs.declared.Name.{Name}
 use Rattle.text.specs.Forms.{isName}
 use Rattle.text.specs.Names.{packed, sameName, placeOf}
 use Rattle.text.specs.Pieces.{split}
-use Rattle.reading.specs.declared.lines.Counts.{Counts}
-use Rattle.reading.specs.declared.lines.Entry.{Entry}
-use Rattle.reading.specs.declared.lines.PolicyLine.{PolicyLine}
+use Rattle.lines.specs.declared.Counts.{Counts}
+use Rattle.lines.specs.declared.Entry.{Entry}
+use Rattle.lines.specs.declared.PolicyLine.{PolicyLine}
 use Rattle.reading.specs.Texts.{read}
-use Rattle.reading.specs.Fields.{placed, isDeclared}
-use Rattle.reading.specs.Lines.{Line, header, role, user, has, assign, revoke, goal, end, other, lineOf, inOrder, wellFormed, withinLimit, declared, entry, inTurn, judged, policyLine}
+use Rattle.lines.specs.Fields.{placed, isDeclared}
+use Rattle.lines.specs.Lines.{Line, header, role, user, has, assign, revoke, goal, end, other, lineOf, inOrder, wellFormed, withinLimit, declared, entry, inTurn, judged, policyLine}
 use Rattle.reading.specs.Policy.{Said, nothing, countsOf, added, judgeLine, readPolicy}
 use Rattle.reading.specs.Kept.{text-keeps, line-keeps}
 use Rattle.verdicts.specs.Sizes.{each-more}

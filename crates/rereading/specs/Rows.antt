@@ -12,7 +12,7 @@ use Rattle.text.specs.declared.Name.{Name}
 use Rattle.text.specs.Forms.{bytes, every, between, nameByte, isName, isLabel}
 use Rattle.text.specs.Names.{placeOf}
 use Rattle.text.specs.Pieces.{split, onto, sameBytes}
-use Rattle.reading.specs.Fields.{placed}
+use Rattle.lines.specs.Fields.{placed}
 use Rattle.writing.specs.Written.{spelled}
 use Rattle.writing.specs.TypingText.{setText, labelText}
 use Rattle.evidence.specs.declared.typing.TypingEntry.{TypingEntry}

@@ -10,7 +10,7 @@ use native.Mathlib.Omega.{arith}
 use Rattle.text.specs.declared.Name.{Name}
 use Rattle.text.specs.Forms.{isName, numberOf}
 use Rattle.text.specs.Pieces.{split}
-use Rattle.reading.specs.Fields.{placed, isDeclared}
+use Rattle.lines.specs.Fields.{placed, isDeclared}
 use Rattle.steps.specs.declared.Step.{Step}
 use Rattle.evidence.specs.declared.trace.TraceEntry.{TraceEntry}
 use Rattle.evidence.specs.declared.trace.TraceLine.{TraceLine}

@@ -18,7 +18,7 @@ use Rattle.text.specs.declared.Name.{Name}
 use Rattle.text.specs.Forms.{bytes, isName, isSet, isLabel}
 use Rattle.text.specs.Pieces.{split, sameBytes}
 use Rattle.reading.specs.Texts.{goes, ends, bad, read}
-use Rattle.reading.specs.Fields.{rolesOf}
+use Rattle.lines.specs.Fields.{rolesOf}
 use Rattle.reading.specs.Policy.{padded}
 use Rattle.reading.specs.Kept.{text-keeps}
 use Rattle.steps.specs.Places.{at-listed}

@@ -4,7 +4,7 @@ use borrow.Author.Needs.{needs}
 use mathlib.Core.Path.{sym, ap, _∙_}
 use native.Mathlib.Omega.{arith}
 use Rattle.evidence.specs.TraceLines.{step-turn, assign-judged, revoke-judged, four-other}
-use Rattle.reading.specs.Fields.{placed}
+use Rattle.lines.specs.Fields.{placed}
 use Rattle.text.specs.Names.{placeOf, rows, rows-length}
 use Rattle.evidence.proofs.trace.step_line.Statement.{statement}
 use Rattle.evidence.proofs.trace.step_line.Tie as tie

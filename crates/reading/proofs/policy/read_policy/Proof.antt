@@ -8,7 +8,7 @@ use Rattle.model.specs.declared.Person.{Person}
 use Rattle.reading.specs.Policy.{nothing, added, entered, judgeLine, readPolicy, codeOf, refusedPolicy, answerOf, policyRead}
 use Rattle.reading.specs.Reached.{Reached, reached-start, reached-end, reached-tail, tables, user-limit, fits-here, line-refused, line-added, line-last, line-more, holding-repeated, has-new, has-twice, person-held, counts-header, laid-header, counts-role, laid-role, counts-user, laid-user, counts-has, laid-has, counts-assign, laid-assign, counts-revoke, laid-revoke, counts-goal, laid-goal, laid-counts}
 use Rattle.reading.specs.Texts.{text-long}
-use Rattle.reading.specs.declared.lines.PolicyLine.{PolicyLine}
+use Rattle.lines.specs.declared.PolicyLine.{PolicyLine}
 use Rattle.roles.specs.Sets.{hasRole, withOf}
 use Rattle.text.specs.Pieces.{part-short}
 use Rattle.reading.proofs.policy.read_policy.Statement.{statement}

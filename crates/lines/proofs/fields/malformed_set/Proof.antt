@@ -1,0 +1,19 @@
+-- `malformed_set` is the written answer.
+use Prim.Native.Nat.{ℕ}
+use borrow.Author.Needs.{needs}
+use mathlib.Core.Path.{ap}
+use Rattle.lines.specs.Fields.{malformedSet}
+use Rattle.lines.specs.declared.fields.SetRead.{SetRead}
+use Rattle.roles.specs.declared.RoleSet.{RoleSet}
+use Rattle.lines.proofs.fields.malformed_set.Statement.{statement}
+use Rattle.lines.proofs.fields.malformed_set.Tie as tie
+
+empty-requires : tie.Need-empty-requires
+empty-requires c κs = search needs
+
+returns : tie.Need-returns
+unfolding malformedSet
+returns c = λ i. record { fault = 2; roles = c .empty .ensures i }
+
+pub malformed-set-spec : {M : Type 1} → statement M
+malformed-set-spec = tie.close (tie.spec empty-requires returns)
