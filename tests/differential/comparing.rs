@@ -1,96 +1,22 @@
-//! One case given to the library and to the reference: answers, lines, bad lines and every byte of
-//! the lent buffers compared.
+//! One case given to the library and to the reference: answers, lines, bad lines, every byte of the
+//! lent buffers and texts compared.
 
-use crate::cases::Texts;
+use crate::answers::Said;
+use crate::cases::Case;
 use crate::chance::Chance;
+use crate::lent::{shown_array, shown_buffer, Lent, LentText};
 use crate::library;
-use crate::limits::TEXT_LIMIT;
-use crate::reference::{self, Answer, BadLine, Merge, Sum};
-use crate::tally::{check_row, merge_row, sum_row, Tally};
-
-/// How many numbers of an array, or bytes of a buffer, stand before and behind the part that is
-/// lent.
-const AROUND: usize = 4;
+use crate::making::widening::Width;
+use crate::reference::{self, Answer};
+use crate::rows;
+use crate::tally::Tally;
+use crate::texts::{Texts, TEXT_LIMIT};
 
 /// What a call said and left, and what it had to say and leave.
 pub struct Difference {
     pub call: &'static str,
     pub library: String,
     pub reference: String,
-}
-
-/// A buffer or an array with a lent part in its middle.
-struct Lent<T> {
-    all: Vec<T>,
-    before: Vec<T>,
-}
-
-impl<T: Copy + PartialEq + From<u8>> Lent<T> {
-    fn new(chance: &mut Chance, length: usize) -> Lent<T> {
-        let mut byte = chance.number() as u8;
-        let mut all = Vec::with_capacity(length + 2 * AROUND);
-        for _ in 0..length + 2 * AROUND {
-            byte = byte.wrapping_mul(5).wrapping_add(87);
-            all.push(T::from(byte));
-        }
-        Lent { before: all.clone(), all: all }
-    }
-
-    fn part(&mut self) -> &mut [T] {
-        let end = self.all.len() - AROUND;
-        &mut self.all[AROUND..end]
-    }
-
-    /// What the whole has to be when this stands at the start of the lent part.
-    fn with(&self, start: &[T]) -> Vec<T> {
-        let mut wanted = self.before.clone();
-        wanted[AROUND..AROUND + start.len()].copy_from_slice(start);
-        wanted
-    }
-}
-
-fn check_numbers(answer: &Answer) -> Vec<u64> {
-    match answer {
-        Answer::Safe { roles, assigns, revokes, goals, pinned } => {
-            vec![0, *roles, *assigns, *revokes, *goals, *pinned]
-        }
-        Answer::Attacked { steps, user, goal, .. } => vec![1, *steps, user + 1, *goal],
-        Answer::Unproved { part, number } => vec![2, part + 1, *number],
-        Answer::Broken { step } => vec![3, *step],
-        Answer::Short { steps } => vec![4, *steps],
-        Answer::Refused { number, line } => vec![*number, *line],
-    }
-}
-
-fn sum_numbers(answer: &Sum) -> (Vec<u64>, &[u8]) {
-    match answer {
-        Sum::Done { pinned, length, text } => (vec![0, *pinned, *length], text),
-        Sum::Refused { number, line, which } => (vec![*number, *which, *line], b""),
-    }
-}
-
-fn merge_numbers(answer: &Merge) -> (Vec<u64>, &[u8]) {
-    match answer {
-        Merge::Done { roles, assigns, revokes, goals, pinned, length, text } => {
-            (vec![0, *roles, *assigns, *revokes, *goals, *pinned, *length], text)
-        }
-        Merge::Unproved { part, number, which } => (vec![2, *which, part + 1, *number], b""),
-        Merge::Refused { number, line, which } => (vec![*number, *which, *line], b""),
-    }
-}
-
-fn bad_row(answer: &Answer, bad: &BadLine) -> &'static str {
-    match answer {
-        Answer::Refused { line: 0, .. } => "no bad line: a text is too long",
-        Answer::Refused { .. }
-            if *bad == (BadLine { in_evidence: false, offset: 0, length: 0 }) =>
-        {
-            "no bad line: end is missing"
-        }
-        Answer::Refused { .. } if bad.in_evidence => "bad line in the evidence",
-        Answer::Refused { .. } => "bad line in the policy",
-        _ => "no bad line: a verdict",
-    }
 }
 
 /// The rows for the buffers of one kind of call: exact, longer, one byte short, shorter, empty.
@@ -118,7 +44,7 @@ const MERGE_ROOMS: Rooms = [
     "merge buffer empty",
 ];
 
-/// A call that tells numbers, and the array lengths it is tried with.
+/// A call that tells numbers: the least array that it tells them in, and the rows for shorter ones.
 struct Told {
     call: &'static str,
     least: usize,
@@ -151,108 +77,127 @@ const MERGE: Told = Told {
     shorter: "merge array shorter",
 };
 
-fn shown_array(all: &[u64]) -> String {
-    let end = all.len() - AROUND;
-    format!("array {:?}, around it {:?} and {:?}\n", &all[AROUND..end], &all[..AROUND], &all[end..])
-}
+/// The library's function on the texts of the case: it gets the lent buffer and the lent array.
+type Call<'a> = &'a dyn Fn(&mut [u8], &mut [u64]) -> usize;
 
-fn shown_buffer(all: &[u8]) -> String {
-    let end = all.len() - AROUND;
-    format!(
-        "buffer \"{}\", around it \"{}\" and \"{}\"\n",
-        all[AROUND..end].escape_ascii(),
-        all[..AROUND].escape_ascii(),
-        all[end..].escape_ascii()
-    )
-}
-
-pub struct Comparing<'a> {
-    chance: &'a mut Chance,
-    tally: &'a mut Tally,
-    differences: Vec<Difference>,
-}
-
-/// Gives one case to both sides. What chance decides here is the length of the buffers.
-pub fn compare(chance: &mut Chance, tally: &mut Tally, texts: &Texts) -> Vec<Difference> {
-    let lent: Vec<Vec<u8>> =
-        texts.named().iter().map(|(_, text)| with_bytes_behind(chance, text)).collect();
-    let part = |place: usize| &lent[place][..texts.named()[place].1.len()];
-    let mut comparing = Comparing { chance: chance, tally: tally, differences: Vec::new() };
-    match texts {
-        Texts::Check { .. } => comparing.check(part(0), part(1)),
-        Texts::Sum { .. } => comparing.sum(part(0), part(1), part(2)),
-        Texts::Merge { .. } => comparing.merge(part(0), part(1), part(2), part(3)),
+/// Gives one case to both sides. What chance decides here is what is lent.
+pub fn compare(chance: &mut Chance, tally: &mut Tally, case: &Case) -> Vec<Difference> {
+    let texts: Vec<LentText> = case
+        .texts
+        .named()
+        .into_iter()
+        .map(|(name, text)| LentText::new(chance, name, text))
+        .collect();
+    let mut comparing = Comparing {
+        chance: chance,
+        tally: tally,
+        width: case.width,
+        texts: &texts,
+        differences: Vec::new(),
+    };
+    let text = |place: usize| texts[place].part();
+    comparing.count(case.made);
+    match case.texts {
+        Texts::Check { .. } => comparing.check(text(0), text(1)),
+        Texts::Sum { .. } => comparing.sum(text(0), text(1), text(2)),
+        Texts::Merge { .. } => comparing.merge(text(0), text(1), text(2), text(3)),
     }
     comparing.differences
 }
 
-/// The text with other bytes behind it, which the library is not lent: one that it looked at would
-/// make another text.
-fn with_bytes_behind(chance: &mut Chance, text: &[u8]) -> Vec<u8> {
-    let behind: &[u8] = chance.pick(&[&b"\n"[..], b"\nend\n", b"end\n", b"a", b"\t", b",a", b"1"]);
-    let mut longer = Vec::with_capacity(text.len() + behind.len());
-    longer.extend_from_slice(text);
-    longer.extend_from_slice(behind);
-    longer
+struct Comparing<'a> {
+    chance: &'a mut Chance,
+    tally: &'a mut Tally,
+    width: Width,
+    texts: &'a [LentText],
+    differences: Vec<Difference>,
 }
 
 impl<'a> Comparing<'a> {
-    /// One call, with the lent array and buffer as they are afterwards.
-    fn call(
-        &mut self,
-        told: &Told,
-        array: usize,
-        room: usize,
-        wanted: &[u64],
-        text: &[u8],
-        call: &mut dyn FnMut(&mut [u8], &mut [u64]) -> usize,
-    ) {
-        let mut values: Lent<u64> = Lent::new(self.chance, array);
-        let mut buffer: Lent<u8> = Lent::new(self.chance, room);
-        let count = call(buffer.part(), values.part());
-        let wanted_values = values.with(wanted);
-        let wanted_buffer = buffer.with(text);
-        if count != wanted.len() || values.all != wanted_values || buffer.all != wanted_buffer {
-            self.differences.push(Difference {
-                call: told.call,
-                library: format!("answers {}\n", count)
-                    + &shown_array(&values.all)
-                    + &shown_buffer(&buffer.all),
-                reference: format!("answers {}\n", wanted.len())
-                    + &shown_array(&wanted_values)
-                    + &shown_buffer(&wanted_buffer),
-            });
+    fn count(&mut self, row: &'static str) {
+        self.tally.count(row, self.width);
+    }
+
+    fn differ(&mut self, call: &'static str, library: String, reference: String) {
+        self.differences.push(Difference { call: call, library: library, reference: reference });
+    }
+
+    /// The answer; often its line, which is made from the same answer; and the bad line, seldom
+    /// where there is none.
+    fn check(&mut self, policy: &[u8], evidence: &[u8]) {
+        let answer = reference::check(policy, evidence);
+        self.count(rows::check(&answer));
+        self.told(&CHECK, 0, &Said::check(&answer), &|_, values| {
+            library::check(policy, evidence, values)
+        });
+        if self.chance.one_in(2) {
+            self.line(policy, evidence, &answer);
+        }
+        if matches!(answer, Answer::Refused { .. }) || self.chance.one_in(4) {
+            self.bad_line(policy, evidence, &answer);
         }
     }
 
-    /// The call with an array that is long enough, and now and then once more with one that is not:
-    /// it then tells and writes nothing.
-    fn told(
-        &mut self,
-        told: &Told,
-        room: usize,
-        wanted: &[u64],
-        text: &[u8],
-        call: &mut dyn FnMut(&mut [u8], &mut [u64]) -> usize,
-    ) {
-        let array = told.least + self.chance.pick(&[0, 0, 1, 5]);
-        self.call(told, array, room, wanted, text, call);
-        if self.chance.one_in(16) {
-            let array = if self.chance.one_in(2) {
-                told.least - 1
-            } else {
-                self.chance.below(told.least - 1)
-            };
-            let row = if array + 1 == told.least { told.one_short } else { told.shorter };
-            self.tally.count(row);
-            self.call(told, array, room, &[], b"", call);
+    fn line(&mut self, policy: &[u8], evidence: &[u8], answer: &Answer) {
+        let mut said = Said::line(answer);
+        let room = self.room(said.count, LINE_ROOMS);
+        if said.count > room {
+            said = Said::nothing();
+        }
+        self.call("arbac_check_line", 0, room, &said, &|line, _| {
+            library::check_line(policy, evidence, line)
+        });
+    }
+
+    fn bad_line(&mut self, policy: &[u8], evidence: &[u8], answer: &Answer) {
+        let bad = reference::bad_line(policy, evidence);
+        self.count(rows::bad_line(answer, &bad));
+        self.told(&BAD_LINE, 0, &Said::bad_line(&bad), &|_, place| {
+            library::bad_line(policy, evidence, place)
+        });
+    }
+
+    fn sum(&mut self, policy: &[u8], first: &[u8], second: &[u8]) {
+        let mut answer = reference::sum(policy, first, second, TEXT_LIMIT);
+        let ample = Said::sum(&answer);
+        let room = self.room_for(&ample, SUM_ROOMS);
+        if ample.text.len() > room {
+            answer = reference::sum(policy, first, second, room);
+        }
+        self.count(rows::sum(&answer));
+        self.told(&SUM, room, &Said::sum(&answer), &|out, values| {
+            library::sum(policy, first, second, out, values)
+        });
+    }
+
+    fn merge(&mut self, policy_1: &[u8], typing_1: &[u8], policy_2: &[u8], typing_2: &[u8]) {
+        let mut answer = reference::merge(policy_1, typing_1, policy_2, typing_2, TEXT_LIMIT);
+        let ample = Said::merge(&answer);
+        let room = self.room_for(&ample, MERGE_ROOMS);
+        if ample.text.len() > room {
+            answer = reference::merge(policy_1, typing_1, policy_2, typing_2, room);
+        }
+        self.count(rows::merge(&answer));
+        self.told(&MERGE, room, &Said::merge(&answer), &|out, values| {
+            library::merge(policy_1, typing_1, policy_2, typing_2, out, values)
+        });
+    }
+
+    /// The length of the buffer to lend, where the answer in one of 32,768 bytes is known: it goes
+    /// by the text that is to be written, by the limit where that is too long, and otherwise by
+    /// nothing.
+    fn room_for(&mut self, ample: &Said, rooms: Rooms) -> usize {
+        match ample.numbers[0] {
+            0 => self.room(ample.text.len(), rooms),
+            18 => TEXT_LIMIT + self.chance.below(3),
+            _ => self.chance.pick(&[0, 1, 50, 400]),
         }
     }
 
     /// A buffer's length beside that of the text that is to go into it.
     fn room(&mut self, length: usize, rooms: Rooms) -> usize {
         let kind = self.chance.pick(&[0, 0, 1, 1, 1, 2, 3, 4]);
-        self.tally.count(rooms[kind]);
+        self.count(rooms[kind]);
         match kind {
             0 => length,
             1 if self.chance.one_in(64) => length.max(TEXT_LIMIT) + self.chance.below(3),
@@ -263,84 +208,38 @@ impl<'a> Comparing<'a> {
         }
     }
 
-    /// The answer; often its line, which is made from the same answer; and the bad line, seldom
-    /// where there is none.
-    fn check(&mut self, policy: &[u8], evidence: &[u8]) {
-        let answer = reference::check(policy, evidence);
-        self.tally.count(check_row(&answer));
-        self.told(&CHECK, 0, &check_numbers(&answer), b"", &mut |_, values| {
-            library::check(policy, evidence, values)
-        });
-
-        if self.chance.one_in(2) {
-            self.line(policy, evidence, &answer);
-        }
-
-        let refused = matches!(answer, Answer::Refused { .. });
-        if refused || self.chance.one_in(4) {
-            let bad = reference::bad_line(policy, evidence);
-            self.tally.count(bad_row(&answer, &bad));
-            let place = [bad.in_evidence as u64, bad.offset as u64, bad.length as u64];
-            self.told(&BAD_LINE, 0, &place, b"", &mut |_, place| {
-                library::bad_line(policy, evidence, place)
-            });
+    /// The call with an array that is long enough, and now and then once more with one that is not:
+    /// it then tells and writes nothing.
+    fn told(&mut self, told: &Told, room: usize, wanted: &Said, call: Call) {
+        let array = told.least + self.chance.pick(&[0, 0, 1, 5]);
+        self.call(told.call, array, room, wanted, call);
+        if self.chance.one_in(16) {
+            let one_short = self.chance.one_in(2);
+            self.count(if one_short { told.one_short } else { told.shorter });
+            let array = if one_short { told.least - 1 } else { self.chance.below(told.least - 1) };
+            self.call(told.call, array, room, &Said::nothing(), call);
         }
     }
 
-    fn line(&mut self, policy: &[u8], evidence: &[u8], answer: &Answer) {
-        let mut line = reference::line(answer);
-        line.push(b'\n');
-        let room = self.room(line.len(), LINE_ROOMS);
-        if line.len() > room {
-            line.clear();
-        }
+    /// One call, with all that is lent as it is afterwards.
+    fn call(&mut self, name: &'static str, array: usize, room: usize, wanted: &Said, call: Call) {
+        let mut values: Lent<u64> = Lent::new(self.chance, array);
         let mut buffer: Lent<u8> = Lent::new(self.chance, room);
-        let length = library::check_line(policy, evidence, buffer.part());
-        let wanted = buffer.with(&line);
-        if length != line.len() || buffer.all != wanted {
-            self.differences.push(Difference {
-                call: "arbac_check_line",
-                library: format!("answers {}\n", length) + &shown_buffer(&buffer.all),
-                reference: format!("answers {}\n", line.len()) + &shown_buffer(&wanted),
-            });
+        let count = call(buffer.part(), values.part());
+        let wanted_values = values.with(&wanted.numbers);
+        let wanted_buffer = buffer.with(&wanted.text);
+        if count != wanted.count || values.all != wanted_values || buffer.all != wanted_buffer {
+            let shown = |count: usize, values: &[u64], buffer: &[u8]| {
+                format!("answers {}\n", count) + &shown_array(values) + &shown_buffer(buffer)
+            };
+            self.differ(
+                name,
+                shown(count, &values.all, &buffer.all),
+                shown(wanted.count, &wanted_values, &wanted_buffer),
+            );
         }
-    }
-
-    /// The room to lend where the answer in a room of 32,768 bytes has this number and this text,
-    /// and whether the reference has to be asked again for it: only 0 and 18 depend on the room.
-    fn room_for(&mut self, number: u64, text: &[u8], rooms: Rooms) -> (usize, bool) {
-        match number {
-            0 => (self.room(text.len(), rooms), true),
-            18 => (TEXT_LIMIT + self.chance.below(3), true),
-            _ => (self.chance.pick(&[0, 1, 50, 400]), false),
+        for text in self.texts.iter().filter(|text| !text.is_kept()) {
+            self.differ(name, format!("changes {}\n", text.name), "changes no text\n".to_string());
         }
-    }
-
-    fn sum(&mut self, policy: &[u8], first: &[u8], second: &[u8]) {
-        let mut answer = reference::sum(policy, first, second, TEXT_LIMIT);
-        let (numbers, text) = sum_numbers(&answer);
-        let (room, again) = self.room_for(numbers[0], text, SUM_ROOMS);
-        if again {
-            answer = reference::sum(policy, first, second, room);
-        }
-        self.tally.count(sum_row(&answer));
-        let (numbers, text) = sum_numbers(&answer);
-        self.told(&SUM, room, &numbers, text, &mut |out, values| {
-            library::sum(policy, first, second, out, values)
-        });
-    }
-
-    fn merge(&mut self, policy_1: &[u8], typing_1: &[u8], policy_2: &[u8], typing_2: &[u8]) {
-        let mut answer = reference::merge(policy_1, typing_1, policy_2, typing_2, TEXT_LIMIT);
-        let (numbers, text) = merge_numbers(&answer);
-        let (room, again) = self.room_for(numbers[0], text, MERGE_ROOMS);
-        if again {
-            answer = reference::merge(policy_1, typing_1, policy_2, typing_2, room);
-        }
-        self.tally.count(merge_row(&answer));
-        let (numbers, text) = merge_numbers(&answer);
-        self.told(&MERGE, room, &numbers, text, &mut |out, values| {
-            library::merge(policy_1, typing_1, policy_2, typing_2, out, values)
-        });
     }
 }

@@ -9,18 +9,19 @@ use std::sync::atomic::{AtomicU64, Ordering};
 use std::thread;
 use std::time::Instant;
 
+mod answers;
 mod cases;
 mod chance;
 mod comparing;
-mod damage;
 mod drafts;
+mod lent;
 mod library;
-mod limits;
 mod making;
 #[path = "../reference/reference.rs"]
 mod reference;
-mod steering;
+mod rows;
 mod tally;
+mod texts;
 
 use cases::Case;
 use chance::Chance;
@@ -45,6 +46,18 @@ struct Run {
 }
 
 impl Run {
+    fn on_threads(&self, threads: usize) -> Tally {
+        let mut tally = Tally::new();
+        thread::scope(|scope| {
+            let running: Vec<_> = (0..threads).map(|_| scope.spawn(|| self.cases())).collect();
+            for one in running {
+                tally.add(&one.join().expect("a thread that ends"));
+            }
+        });
+        tally
+    }
+
+    /// What one thread takes of the cases.
     fn cases(&self) -> Tally {
         let mut tally = Tally::new();
         loop {
@@ -61,8 +74,7 @@ impl Run {
     fn case(&self, number: u64, tally: &mut Tally) {
         let mut chance = Chance::of(self.seed, number);
         let case = cases::case(&mut chance, number);
-        tally.count(case.made);
-        let differences = comparing::compare(&mut chance, tally, &case.texts);
+        let differences = comparing::compare(&mut chance, tally, &case);
         if !differences.is_empty() && self.differ.fetch_add(1, Ordering::SeqCst) < KEPT {
             self.keep(number, &case, &differences);
         }
@@ -102,8 +114,8 @@ fn main() {
     let number = |place: usize| arguments[place].parse::<u64>().expect("a number");
     let (seed, first, last) = (number(0), number(1), number(2));
     println!("seed {}, cases {} to {}", seed, first, last);
-    let start = Instant::now();
 
+    let start = Instant::now();
     let run = Run {
         seed: seed,
         last: last,
@@ -112,15 +124,9 @@ fn main() {
         differ: AtomicU64::new(0),
     };
     let threads = thread::available_parallelism().map_or(1, |count| count.get());
-    let mut tally = Tally::new();
-    thread::scope(|scope| {
-        let running: Vec<_> = (0..threads).map(|_| scope.spawn(|| run.cases())).collect();
-        for one in running {
-            tally.add(&one.join().expect("a thread that ends"));
-        }
-    });
-
+    let tally = run.on_threads(threads);
     tally.print();
+
     let compared = last + 1 - first;
     let seldom = if compared < WHOLE { Vec::new() } else { tally.seldom() };
     for row in &seldom {

@@ -1,17 +1,30 @@
-//! The table of what was compared: how often each kind of answer, buffer and making occurred.
+//! The table of what was compared: how often each kind of answer, buffer and making occurred, and
+//! how often over 63 to 128 roles.
 
 use std::collections::BTreeMap;
 
-use crate::reference::{Answer, Merge, Sum};
+use crate::making::widening::Width;
 
 /// How often each row has to occur in a whole run.
 const WANTED: u64 = 100;
 
-/// Every row, under its heading.
-const ROWS: [(&str, &[&str]); 7] = [
-    (
-        "Answers of check",
-        &[
+/// How often over 63 to 128 roles.
+const WANTED_WIDE: u64 = 50;
+
+/// Rows under a heading.
+struct Section {
+    heading: &'static str,
+    /// Whether the rows occur in both widths.
+    either_width: bool,
+    rows: &'static [&'static str],
+}
+
+/// Every row of the table.
+const SECTIONS: [Section; 7] = [
+    Section {
+        heading: "Answers of check",
+        either_width: true,
+        rows: &[
             "check 0 SAFE",
             "check 1 ATTACKED",
             "check 2 UNPROVED holdings",
@@ -28,20 +41,22 @@ const ROWS: [(&str, &[&str]); 7] = [
             "check 15",
             "check 16",
         ],
-    ),
-    (
-        "Bad lines",
-        &[
+    },
+    Section {
+        heading: "Bad lines",
+        either_width: true,
+        rows: &[
             "bad line in the policy",
             "bad line in the evidence",
             "no bad line: end is missing",
             "no bad line: a text is too long",
             "no bad line: a verdict",
         ],
-    ),
-    (
-        "Answers of sum",
-        &[
+    },
+    Section {
+        heading: "Answers of sum",
+        either_width: true,
+        rows: &[
             "sum 0",
             "sum 10, policy",
             "sum 11, policy",
@@ -55,10 +70,11 @@ const ROWS: [(&str, &[&str]); 7] = [
             "sum 16, second typing",
             "sum 18",
         ],
-    ),
-    (
-        "Answers of merge",
-        &[
+    },
+    Section {
+        heading: "Answers of merge",
+        either_width: true,
+        rows: &[
             "merge 0",
             "merge 2, typing one on policy one, holdings",
             "merge 2, typing one on policy one, assign",
@@ -90,10 +106,11 @@ const ROWS: [(&str, &[&str]); 7] = [
             "merge 18",
             "merge 19",
         ],
-    ),
-    (
-        "Lent buffers and arrays",
-        &[
+    },
+    Section {
+        heading: "Lent buffers and arrays",
+        either_width: true,
+        rows: &[
             "line buffer exact",
             "line buffer longer",
             "line buffer one byte short",
@@ -118,29 +135,27 @@ const ROWS: [(&str, &[&str]); 7] = [
             "merge array one number short",
             "merge array shorter",
         ],
-    ),
-    (
-        "Cases made at random",
-        &[
+    },
+    Section {
+        heading: "Cases made at random",
+        either_width: true,
+        rows: &[
             "a typing",
-            "a typing of 63 to 128 roles",
+            "a typing that is a chain of all roles",
             "a trace",
-            "a trace over 63 to 128 roles",
             "a damaged policy or evidence",
-            "a damaged policy or evidence of 63 to 128 roles",
             "a sum",
-            "a sum of 63 to 128 roles",
             "a damaged sum",
             "a merge",
-            "a merge of 63 to 128 roles",
             "a damaged merge",
             "a merge over two grounds",
             "a text of another kind",
         ],
-    ),
-    (
-        "Cases made at and over the limits",
-        &[
+    },
+    Section {
+        heading: "Cases made at and over the limits",
+        either_width: false,
+        rows: &[
             "128 roles",
             "129 roles",
             "64 users",
@@ -176,122 +191,73 @@ const ROWS: [(&str, &[&str]); 7] = [
             "merged sum of 32,768 bytes",
             "merged sum of 32,769 bytes",
         ],
-    ),
+    },
 ];
 
+fn rows() -> impl Iterator<Item = &'static str> {
+    SECTIONS.iter().flat_map(|section| section.rows.iter().copied())
+}
+
+#[derive(Clone, Copy, Default)]
+struct Count {
+    all: u64,
+    wide: u64,
+}
+
 pub struct Tally {
-    counts: BTreeMap<&'static str, u64>,
+    counts: BTreeMap<&'static str, Count>,
 }
 
 impl Tally {
     pub fn new() -> Tally {
-        let rows = ROWS.iter().flat_map(|(_, rows)| rows.iter());
-        Tally { counts: rows.map(|&row| (row, 0)).collect() }
+        Tally { counts: rows().map(|row| (row, Count::default())).collect() }
     }
 
-    pub fn count(&mut self, row: &'static str) {
-        *self.counts.get_mut(row).expect("a row of the table") += 1;
+    pub fn count(&mut self, row: &'static str, width: Width) {
+        let count = self.counts.get_mut(row).expect("a row of the table");
+        count.all += 1;
+        count.wide += (width == Width::Wide) as u64;
     }
 
     pub fn add(&mut self, other: &Tally) {
-        for (row, count) in &other.counts {
-            *self.counts.entry(row).or_insert(0) += count;
+        for (row, count) in &mut self.counts {
+            count.all += other.counts[row].all;
+            count.wide += other.counts[row].wide;
         }
     }
 
     pub fn print(&self) {
-        for (heading, rows) in ROWS {
-            println!("\n| {} | times |\n|---|---|", heading);
-            for row in rows {
-                println!("| {} | {} |", row, self.counts[row]);
+        for section in &SECTIONS {
+            if section.either_width {
+                println!("\n| {} | times | of 63 to 128 roles |\n|---|---|---|", section.heading);
+            } else {
+                println!("\n| {} | times |\n|---|---|", section.heading);
+            }
+            for row in section.rows {
+                let count = self.counts[row];
+                if section.either_width {
+                    println!("| {} | {} | {} |", row, count.all, count.wide);
+                } else {
+                    println!("| {} | {} |", row, count.all);
+                }
             }
         }
         println!();
     }
 
     /// The rows that occurred too seldom to say anything.
-    pub fn seldom(&self) -> Vec<&'static str> {
-        let rows = ROWS.iter().flat_map(|(_, rows)| rows.iter().copied());
-        rows.filter(|row| self.counts[row] < WANTED).collect()
-    }
-}
-
-pub fn check_row(answer: &Answer) -> &'static str {
-    match answer {
-        Answer::Safe { .. } => "check 0 SAFE",
-        Answer::Attacked { .. } => "check 1 ATTACKED",
-        Answer::Unproved { part, .. } => [
-            "check 2 UNPROVED holdings",
-            "check 2 UNPROVED assign",
-            "check 2 UNPROVED revoke",
-            "check 2 UNPROVED goal",
-        ][*part as usize],
-        Answer::Broken { .. } => "check 3 BROKEN",
-        Answer::Short { .. } => "check 4 SHORT",
-        Answer::Refused { number, .. } => {
-            ["check 10", "check 11", "check 12", "check 13", "check 14", "check 15", "check 16"]
-                [*number as usize - 10]
+    pub fn seldom(&self) -> Vec<String> {
+        let mut seldom = Vec::new();
+        for section in &SECTIONS {
+            for row in section.rows {
+                let count = self.counts[row];
+                if count.all < WANTED {
+                    seldom.push(row.to_string());
+                } else if section.either_width && count.wide < WANTED_WIDE {
+                    seldom.push(format!("{}, of 63 to 128 roles", row));
+                }
+            }
         }
-    }
-}
-
-pub fn sum_row(answer: &Sum) -> &'static str {
-    match answer {
-        Sum::Done { .. } => "sum 0",
-        Sum::Refused { number, which, .. } => match (which, number) {
-            (1, 10) => "sum 10, policy",
-            (1, 11) => "sum 11, policy",
-            (1, 12) => "sum 12, policy",
-            (1, 13) => "sum 13, policy",
-            (2, 14) => "sum 14, first typing",
-            (2, 15) => "sum 15, first typing",
-            (2, 16) => "sum 16, first typing",
-            (3, 14) => "sum 14, second typing",
-            (3, 15) => "sum 15, second typing",
-            (3, 16) => "sum 16, second typing",
-            (0, 18) => "sum 18",
-            _ => panic!("document 01 has no such answer of sum"),
-        },
-    }
-}
-
-pub fn merge_row(answer: &Merge) -> &'static str {
-    match answer {
-        Merge::Done { .. } => "merge 0",
-        Merge::Unproved { which, part, .. } => match (which, part) {
-            (1, 0) => "merge 2, typing one on policy one, holdings",
-            (1, 1) => "merge 2, typing one on policy one, assign",
-            (1, 2) => "merge 2, typing one on policy one, revoke",
-            (1, 3) => "merge 2, typing one on policy one, goal",
-            (2, 0) => "merge 2, typing two on policy two, holdings",
-            (2, 1) => "merge 2, typing two on policy two, assign",
-            (2, 2) => "merge 2, typing two on policy two, revoke",
-            (2, 3) => "merge 2, typing two on policy two, goal",
-            (3, 1) => "merge 2, typing one on rules two, assign",
-            (3, 2) => "merge 2, typing one on rules two, revoke",
-            (4, 1) => "merge 2, typing two on rules one, assign",
-            (4, 2) => "merge 2, typing two on rules one, revoke",
-            _ => panic!("document 01 has no such failure of merge"),
-        },
-        Merge::Refused { number, which, .. } => match (which, number) {
-            (1, 10) => "merge 10, policy one",
-            (1, 11) => "merge 11, policy one",
-            (1, 12) => "merge 12, policy one",
-            (1, 13) => "merge 13, policy one",
-            (2, 14) => "merge 14, typing one",
-            (2, 15) => "merge 15, typing one",
-            (2, 16) => "merge 16, typing one",
-            (3, 10) => "merge 10, policy two",
-            (3, 11) => "merge 11, policy two",
-            (3, 12) => "merge 12, policy two",
-            (3, 13) => "merge 13, policy two",
-            (4, 14) => "merge 14, typing two",
-            (4, 15) => "merge 15, typing two",
-            (4, 16) => "merge 16, typing two",
-            (0, 17) => "merge 17",
-            (0, 18) => "merge 18",
-            (0, 19) => "merge 19",
-            _ => panic!("document 01 has no such answer of merge"),
-        },
+        seldom
     }
 }

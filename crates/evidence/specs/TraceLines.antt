@@ -1,13 +1,13 @@
 -- One line of a trace: when it is malformed, and when it names what it must not (document 01, "The texts").
 use Prim.Native.Nat.{ℕ, zero, suc, _-_}
-use mathlib.Core.Bool.{Bool, true, false, cond, not, _&&_, _||_}
+use mathlib.Core.Bool.{Bool, true, false, cond, not, _&&_, _||_, or-false}
 use mathlib.Core.List.{List, [], _∷_}
 use mathlib.Core.Path.{_≡_, refl, sym, ap, ap₂, _∙_}
 use lib.Dec.{leb, ltb, eqb}
 use lib.ListN.{length}
 use Rattle.text.specs.declared.Name.{Name}
 use Rattle.text.specs.Forms.{bytes, isName, numberOf}
-use Rattle.text.specs.Pieces.{split, sameBytes, split-piece}
+use Rattle.text.specs.Pieces.{split, sameBytes}
 use Rattle.steps.specs.declared.Step.{Step}
 use Rattle.lines.specs.Fields.{placed, isDeclared}
 use Rattle.evidence.specs.declared.trace.TraceEntry.{TraceEntry}
@@ -84,6 +84,10 @@ traceLine started assigns revokes users line = judged started assigns revokes us
 
 -- ---- each kind of line, from what a reader finds
 
+unfoldable pub stepOf : (assigning : Bool) (actor rule user : ℕ) → Step
+stepOf true actor rule user = Step.Assign actor rule user
+stepOf false actor rule user = Step.Revoke actor rule user
+
 pub answer-good : (number : ℕ) (e : TraceEntry) → number ≡ 0 → TraceLine.Good e ≡ answerTo number e
 unfolding answerTo
 answer-good number e none = sym (ap (λ (n : ℕ). answerTo n e) none)
@@ -115,34 +119,22 @@ module _ (started : Bool) (assigns revokes : ℕ) (users : List Name) where
       go false = refl
 
   -- a step's two tests and its places, whatever the kind
-  pub step-turn : (rules : ℕ) (actor number user : List ℕ) {a u n count turned : ℕ} {is is′ : Bool} → length users ≡ count → a ≡ placed users actor → u ≡ placed users user → n ≡ numberOf number
-      → is ≡ isName actor → is′ ≡ isName user → turned ≡ turnOf (started && ((is && is′) && not (eqb n 0))) ((ltb a count && ltb u count) && leb n rules)
-      → turned ≡ turnOf (started && isStep actor number user) (stepNamed rules users actor number user)
-  unfolding isStep stepNamed isDeclared
-  step-turn rules actor number user {a} {u} {n} {count} {is′ = is′} many at at′ value formed formed′ told =
-      told
-      ∙ ap₂ (λ (x : Bool) (k : ℕ). turnOf (started && ((x && is′) && not (eqb k 0))) ((ltb a count && ltb u count) && leb k rules)) formed value
-      ∙ ap₂ (λ (y : Bool) (k : ℕ). turnOf (started && ((isName actor && y) && not (eqb (numberOf number) 0))) ((ltb a k && ltb u k) && leb (numberOf number) rules)) formed′ (sym many)
-      ∙ ap₂ (λ (x y : ℕ). turnOf (started && ((isName actor && isName user) && not (eqb (numberOf number) 0))) ((ltb x (length users) && ltb y (length users)) && leb (numberOf number) rules)) at at′
-
-  pub assign-judged : (word actor number user : List ℕ) {a u rule turned : ℕ} {answer : TraceLine} → sameBytes word (bytes "assign") ≡ true → a ≡ placed users actor → u ≡ placed users user → rule ≡ numberOf number - 1
-      → turned ≡ turnOf (started && isStep actor number user) (stepNamed assigns users actor number user) → answer ≡ answerTo turned (TraceEntry.Step (Step.Assign a rule u))
-      → answer ≡ judged started assigns revokes users (fourFields word actor number user)
-  unfolding judged wellFormed named entry fourFields
-  assign-judged word actor number user is at at′ place told given =
-      given ∙ ap₂ answerTo told (λ i. TraceEntry.Step (Step.Assign (at i) (place i) (at′ i))) ∙ ap (judged started assigns revokes users) (sym (ap (λ (b : Bool). cond b (assign actor number user) (cond (sameBytes word (bytes "revoke")) (revoke actor number user) other)) is))
-
-  pub revoke-judged : (word actor number user : List ℕ) {a u rule turned : ℕ} {answer : TraceLine} → sameBytes word (bytes "assign") ≡ false → sameBytes word (bytes "revoke") ≡ true → a ≡ placed users actor → u ≡ placed users user
-      → rule ≡ numberOf number - 1 → turned ≡ turnOf (started && isStep actor number user) (stepNamed revokes users actor number user) → answer ≡ answerTo turned (TraceEntry.Step (Step.Revoke a rule u))
-      → answer ≡ judged started assigns revokes users (fourFields word actor number user)
-  unfolding judged wellFormed named entry fourFields
-  revoke-judged word actor number user isn is at at′ place told given =
-      given ∙ ap₂ answerTo told (λ i. TraceEntry.Step (Step.Revoke (at i) (place i) (at′ i)))
-      ∙ ap (judged started assigns revokes users) (sym (ap₂ (λ (b d : Bool). cond b (assign actor number user) (cond d (revoke actor number user) other)) isn is))
-
-  pub four-other : (word actor number user : List ℕ) → sameBytes word (bytes "assign") ≡ false → sameBytes word (bytes "revoke") ≡ false → TraceLine.Bad 15 ≡ judged started assigns revokes users (fourFields word actor number user)
-  unfolding judged answerTo turnOf wellFormed fourFields
-  four-other word actor number user isn is = sym (ap (judged started assigns revokes users) (ap₂ (λ (b d : Bool). cond b (assign actor number user) (cond d (revoke actor number user) other)) isn is))
+  pub step-judged : (word actor number user : List ℕ) {a u n rule count turned : ℕ} {is is′ assigning revoking : Bool} {step : Step} {answer : TraceLine} → assigning ≡ sameBytes word (bytes "assign")
+      → revoking ≡ sameBytes word (bytes "revoke") → length users ≡ count → a ≡ placed users actor → u ≡ placed users user → n ≡ numberOf number → is ≡ isName actor → is′ ≡ isName user
+      → turned
+      ≡ turnOf ((assigning || revoking) && (started && ((is && is′) && not (eqb n 0)))) ((ltb a count && ltb u count) && ((assigning && leb n assigns) || (not assigning && leb n revokes)))
+      → rule ≡ n - 1 → step ≡ stepOf assigning a rule u → answer ≡ answerTo turned (TraceEntry.Step step) → answer ≡ judged started assigns revokes users (fourFields word actor number user)
+  unfolding judged wellFormed named entry fourFields isStep stepNamed isDeclared stepOf answerTo turnOf
+  step-judged word actor number user kind kind′ many at at′ value formed formed′ told place made given =
+      (cc) ∙ go (sameBytes word (bytes "assign")) (sameBytes word (bytes "revoke"))
+    where
+      go : (b d : Bool)
+          → answerTo (turnOf ((b || d) && (started && isStep actor number user)) ((isDeclared users actor && isDeclared users user) && ((b && leb (numberOf number) assigns) || (not b && leb (numberOf number) revokes))))
+          (TraceEntry.Step (stepOf b (placed users actor) (numberOf number - 1) (placed users user)))
+          ≡ judged started assigns revokes users (cond b (assign actor number user) (cond d (revoke actor number user) other))
+      go true d = rw or-false
+      go false true = refl
+      go false false = refl
 
   pub other-judged : TraceLine.Bad 15 ≡ judged started assigns revokes users other
   unfolding judged answerTo turnOf wellFormed
@@ -150,24 +142,7 @@ module _ (started : Bool) (assigns revokes : ℕ) (users : List Name) where
 
 -- ---- the fields of a line
 
-pub line-one : (line : List ℕ) {w : List ℕ} → split 9 line ≡ w ∷ [] → oneField w ≡ lineOf (split 9 line)
-unfolding lineOf
-line-one line fields = sym (ap lineOf fields)
-
-pub line-two : (line : List ℕ) {w a : List ℕ} → split 9 line ≡ w ∷ a ∷ [] → twoFields w a ≡ lineOf (split 9 line)
-unfolding lineOf
-line-two line fields = sym (ap lineOf fields)
-
-pub line-three : (line : List ℕ) {w a b : List ℕ} → split 9 line ≡ w ∷ a ∷ b ∷ [] → other ≡ lineOf (split 9 line)
-unfolding lineOf
-line-three line fields = sym (ap lineOf fields)
-
-pub line-four : (line : List ℕ) {w a b c : List ℕ} → split 9 line ≡ w ∷ a ∷ b ∷ c ∷ [] → fourFields w a b c ≡ lineOf (split 9 line)
-unfolding lineOf
-line-four line fields = sym (ap lineOf fields)
-
-pub line-more : (line : List ℕ) {w a b c : List ℕ} (rest : List ℕ) → split 9 line ≡ w ∷ a ∷ b ∷ c ∷ split 9 rest → other ≡ lineOf (split 9 line)
-unfolding lineOf
-line-more line {w} {a} {b} {c} rest fields =
-    let some = split-piece 9 rest in
-    sym (ap lineOf (fields ∙ ap (λ (l : List (List ℕ)). w ∷ a ∷ b ∷ c ∷ l) (some .2)))
+pub by-fields : (started : Bool) (assigns revokes : ℕ) (users : List Name) (line : List ℕ) {fields : List (List ℕ)} → split 9 line ≡ fields
+    → judged started assigns revokes users (lineOf fields) ≡ traceLine started assigns revokes users line
+unfolding traceLine
+by-fields started assigns revokes users line cut = sym (ap (λ (l : List (List ℕ)). judged started assigns revokes users (lineOf l)) cut)

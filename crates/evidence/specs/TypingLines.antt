@@ -7,7 +7,7 @@ use lib.Dec.{leb, ltb, eqb}
 use lib.ListN.{length}
 use Rattle.text.specs.declared.Name.{Name}
 use Rattle.text.specs.Forms.{bytes, isName, isSet, isLabel}
-use Rattle.text.specs.Pieces.{split, sameBytes, split-piece}
+use Rattle.text.specs.Pieces.{split, sameBytes}
 use Rattle.lines.specs.declared.fields.SetRead.{SetRead}
 use Rattle.lines.specs.Fields.{placed, allDeclared, rolesOf, faultOf, setRead, worse, set-fault, roles-read}
 use Rattle.evidence.specs.declared.typing.TypingEntry.{TypingEntry}
@@ -143,24 +143,6 @@ other-judged stage names = refl
 
 -- ---- the fields of a line
 
-pub line-one : (line : List ℕ) {w : List ℕ} → split 9 line ≡ w ∷ [] → oneField w ≡ lineOf (split 9 line)
-unfolding lineOf
-line-one line fields = sym (ap lineOf fields)
-
-pub line-two : (line : List ℕ) {w a : List ℕ} → split 9 line ≡ w ∷ a ∷ [] → twoFields w a ≡ lineOf (split 9 line)
-unfolding lineOf
-line-two line fields = sym (ap lineOf fields)
-
-pub line-three : (line : List ℕ) {w a b : List ℕ} → split 9 line ≡ w ∷ a ∷ b ∷ [] → other ≡ lineOf (split 9 line)
-unfolding lineOf
-line-three line fields = sym (ap lineOf fields)
-
-pub line-four : (line : List ℕ) {w a b c : List ℕ} → split 9 line ≡ w ∷ a ∷ b ∷ c ∷ [] → row w a b c ≡ lineOf (split 9 line)
-unfolding lineOf
-line-four line fields = sym (ap lineOf fields)
-
-pub line-more : (line : List ℕ) {w a b c : List ℕ} (rest : List ℕ) → split 9 line ≡ w ∷ a ∷ b ∷ c ∷ split 9 rest → other ≡ lineOf (split 9 line)
-unfolding lineOf
-line-more line {w} {a} {b} {c} rest fields =
-    let some = split-piece 9 rest in
-    sym (ap lineOf (fields ∙ ap (λ (l : List (List ℕ)). w ∷ a ∷ b ∷ c ∷ l) (some .2)))
+pub by-fields : (stage : ℕ) (names : List Name) (line : List ℕ) {fields : List (List ℕ)} → split 9 line ≡ fields → judged stage names (lineOf fields) ≡ typingLine stage names line
+unfolding typingLine
+by-fields stage names line cut = sym (ap (λ (l : List (List ℕ)). judged stage names (lineOf l)) cut)

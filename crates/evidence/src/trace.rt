@@ -6,7 +6,7 @@ ghost use Prim.Native.Nat.{ℕ, _*_, _-_, _≤_};
 ghost use lib.ListN.{length};
 ghost use Rattle.text.specs.declared.Name.{Name};
 ghost use Rattle.text.specs.Names.{rows};
-ghost use Rattle.evidence.specs.TraceLines.{oneField, twoFields, fourFields, answerTo, judged, traceLine};
+ghost use Rattle.evidence.specs.TraceLines.{oneField, twoFields, fourFields, answerTo, judged, traceLine, stepOf};
 ghost use Rattle.evidence.specs.TraceText.{codeOf, refusedTrace, traceRead};
 use crate::turns::turn;
 use lines::Counts;
@@ -68,6 +68,16 @@ fn header_line(word: &[u8], edition: &[u8], started: bool) -> TraceLine
     answer(turn(formed, true), TraceEntry::Header)
 }
 
+// An assign step, and else a revoke step.
+fn step_of(assigning: bool, actor: usize, rule: usize, user: usize) -> Step
+    ensures { λ r. ⌜ r ≡ stepOf assigning actor rule user ⌝ }
+{
+    if assigning {
+        return Step::Assign { actor, rule, user };
+    }
+    Step::Revoke { actor, rule, user }
+}
+
 // A line of four fields: a step.
 fn step_line(
     word: &[u8],
@@ -81,36 +91,17 @@ fn step_line(
     requires { ⌜ 4 * c .users ≤ length (now users) ⌝ }
     ensures { λ r. ⌜ r ≡ judged started (c .assigns) (c .revokes) (rows (c .users) (now (users .entry))) (fourFields (now (word .entry)) (now (actor .entry)) (now (number .entry)) (now (user .entry))) ⌝ }
 {
+    let assigning = text::same(word, b"assign");
+    let kind = assigning | text::same(word, b"revoke");
     let count = c.users;
     let a = text::find(users, count, text::pack(actor));
     let u = text::find(users, count, text::pack(user));
     let n = text::number(number);
-    let formed = started & (text::is_name(actor) & text::is_name(user) & (n != 0));
-    let known = (a < count) & (u < count);
-    let rule = place_of(n);
-    if text::same(word, b"assign") {
-        let step = Step::Assign {
-            actor: a,
-            rule,
-            user: u,
-        };
-        return answer(
-            turn(formed, known & (n <= c.assigns)),
-            TraceEntry::Step(step),
-        );
-    }
-    if text::same(word, b"revoke") {
-        let step = Step::Revoke {
-            actor: a,
-            rule,
-            user: u,
-        };
-        return answer(
-            turn(formed, known & (n <= c.revokes)),
-            TraceEntry::Step(step),
-        );
-    }
-    TraceLine::Bad(15)
+    let formed = kind & (started & (text::is_name(actor) & text::is_name(user) & (n != 0)));
+    let ruled = (assigning & (n <= c.assigns)) | (!assigning & (n <= c.revokes));
+    let known = (a < count) & (u < count) & ruled;
+    let step = step_of(assigning, a, place_of(n), u);
+    answer(turn(formed, known), TraceEntry::Step(step))
 }
 
 // One line of a trace, without its LF, judged on its own bytes, the header above, the user names and the rule counts.

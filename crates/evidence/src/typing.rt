@@ -8,9 +8,9 @@ ghost use Rattle.text.specs.Names.{rows};
 ghost use Rattle.evidence.specs.TypingLines.{Line, oneField, twoFields, answerTo, judged, typingLine};
 ghost use Rattle.evidence.specs.TypingText.{untyped, tableOf, codeOf, refusedTyping, typingRead};
 use crate::turns::turn;
-use model::Typing;
 use lines::fields::read_set;
 use lines::fields::worse;
+use model::Typing;
 use roles::RoleSet;
 
 // What a good line says: a row's label is true for H.

@@ -3,5 +3,6 @@ pub mod Verdict
 pub mod Layout
 pub mod Ends
 pub mod Range
+pub mod Trying
 pub mod Reached
 pub mod Exact

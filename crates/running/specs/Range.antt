@@ -65,5 +65,7 @@ good-range started assigns revokes users line {e} good =
     subst (Ranged assigns revokes (length users)) (told .2) (entry-range started assigns revokes users (lineOf (split 9 line)) (told .0) (told .1))
 
 -- below counts, and so below their limits
-pub within : {rules users actor rule user most many : ℕ} → InRange rules users actor rule user → rules ≤ most → users ≤ many → InRange most many actor rule user
-within r few some = record { acts = omega (arith, r .acts); ruled = omega (arith, r .ruled); used = omega (arith, r .used) }
+pub within : {assigns revokes users assigns′ revokes′ users′ : ℕ} (step : Step) → assigns ≤ assigns′ → revokes ≤ revokes′ → users ≤ users′ → Ranged assigns revokes users (TraceEntry.Step step)
+    → Ranged assigns′ revokes′ users′ (TraceEntry.Step step)
+within (Step.Assign actor rule user) a b c r = omega arith
+within (Step.Revoke actor rule user) a b c r = omega arith

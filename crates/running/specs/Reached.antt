@@ -3,14 +3,15 @@ use Prim.Native.Nat.{ℕ, zero, suc, _+_, _≤_, _<_, zero-le}
 use mathlib.Core.Bool.{Bool, true, false}
 use mathlib.Core.List.{List, [], _∷_, _++_}
 use mathlib.Core.Path.{_≡_, refl, sym, ap, ap₂, subst, _∙_}
-use lib.ListN.{length, getD, take, set, length-append, length-take, length-set}
+use lib.ListN.{length, take, set, length-append, length-take, length-set}
+use lib.Seq.{take-set-lt}
 use native.Mathlib.Numerals.{add-one}
 use native.Mathlib.Omega.{arith}
 use Rattle.roles.specs.declared.RoleSet.{RoleSet}
 use Rattle.model.specs.declared.Assign.{Assign}
 use Rattle.model.specs.declared.Revoke.{Revoke}
 use Rattle.model.specs.declared.Person.{Person}
-use Rattle.model.specs.Policy.{State, nobody, person}
+use Rattle.model.specs.Policy.{State}
 use Rattle.text.specs.Names.{rows, rows-length}
 use Rattle.text.specs.Pieces.{part, Sought}
 use Rattle.reading.specs.declared.policy.Policy.{Policy}
@@ -18,18 +19,19 @@ use Rattle.reading.specs.Texts.{Judged, Reading, text-long}
 use Rattle.reading.specs.Walk.{On, on-start, on-end, on-tail, on-bad, on-goes, on-last, on-more}
 use Rattle.steps.specs.declared.Found.{Found}
 use Rattle.steps.specs.declared.Step.{Step}
-use Rattle.steps.specs.Tests.{mayAssign, mayRevoke, withTarget, withoutTarget, firstBad}
-use Rattle.steps.specs.Traces.{assignAt, revokeAt, possible, after, Ran, ran, runOf}
+use Rattle.steps.specs.Tests.{firstBad}
+use Rattle.steps.specs.Traces.{possible, after, Ran, ran, runOf}
 use Rattle.steps.specs.Runs.{run-more, run-breaks}
 use Rattle.steps.specs.Exact.{broken-stays}
-use Rattle.steps.specs.Arrays.{assign-may, revoke-may, person-taken, assign-taken, revoke-taken, assign-stored, revoke-stored}
 use Rattle.evidence.specs.declared.trace.TraceEntry.{TraceEntry}
 use Rattle.evidence.specs.declared.trace.TraceLine.{TraceLine}
 use Rattle.evidence.specs.TraceLines.{traceLine}
 use Rattle.evidence.specs.TraceText.{Traced, untraced, added, answered, judgeLine, readTrace}
 use Rattle.running.specs.declared.TraceVerdict.{TraceVerdict}
 use Rattle.running.specs.Layout.{Counted, saidIn}
-use Rattle.running.specs.Range.{InRange, Ranged, good-range}
+use Rattle.running.specs.declared.Tried.{Tried}
+use Rattle.running.specs.Trying.{triedIn, tried-taken, tried-place, tried-possible, tried-after}
+use Rattle.running.specs.Range.{Ranged, within, good-range}
 use Rattle.running.specs.Verdict.{ranVerdict, readVerdict, traceVerdict, soFar, endVerdict}
 
 -- how the arrays of a policy are laid out: as long as their types say, with counts within
@@ -158,82 +160,55 @@ module _ {p : Policy} {text : List ℕ} {at number : ℕ} {started : Bool} {step
           go zero positive run = absurd (positive refl)
           go (suc n) positive run = broken-stays (assignsIn p) (revokesIn p) (stateIn p (p .persons)) (r .said .steps) (step ∷ []) (suc n) run
 
-      module _ (none : stopped ≡ 0) where
-        running : runOf (assignsIn p) (revokesIn p) (stateIn p (p .persons)) (r .said .steps) ≡ ran (stateIn p persons)
-        unfolding soFar
-        running = r .run ∙ ap (λ (n : ℕ). soFar n (stateIn p persons)) none
+      module _ {step : Step} (good : answer ≡ TraceLine.Good (TraceEntry.Step step)) where
+        ranged : Ranged (p .counts .assigns) (p .counts .revokes) (p .counts .users) (TraceEntry.Step step)
+        ranged =
+            subst (λ (n : ℕ). Ranged (p .counts .assigns) (p .counts .revokes) n (TraceEntry.Step step)) (rows-length (p .counts .users) (p .users))
+            (good-range started (p .counts .assigns) (p .counts .revokes) (rows (p .counts .users) (p .users)) (part text at stop) (sym given ∙ good))
 
-        step-goes : {step : Step} {persons′ : List Person} → answer ≡ TraceLine.Good (TraceEntry.Step step) → possible (assignsIn p) (revokesIn p) (stateIn p persons) step ≡ true → length persons′ ≡ 64
-            → after (assignsIn p) (revokesIn p) (stateIn p persons) step ≡ stateIn p persons′ → Reached p text (stop + 1) (number + 1) started (steps + 1) stopped persons′
-        unfolding soFar
-        step-goes {step} {persons′} good may wide becomes =
-            line-step good stopped persons′ wide
-            (run-more (assignsIn p) (revokesIn p) (stateIn p (p .persons)) (r .said .steps) step running may ∙ ap ran becomes ∙ sym (ap (λ (n : ℕ). soFar n (stateIn p persons′)) none))
+        pub step-range : Ranged 256 256 64 (TraceEntry.Step step)
+        step-range = within step (r .arrayed .counts .assigns) (r .arrayed .counts .revokes) (r .arrayed .counts .users) ranged
 
-        step-breaks : {step : Step} → answer ≡ TraceLine.Good (TraceEntry.Step step) → possible (assignsIn p) (revokesIn p) (stateIn p persons) step ≡ false
-            → Reached p text (stop + 1) (number + 1) started (steps + 1) (steps + 1) persons
-        unfolding soFar
-        step-breaks {step} good may =
-            line-step good (steps + 1) persons (r .wide)
-            (run-breaks (assignsIn p) (revokesIn p) (stateIn p (p .persons)) (r .said .steps) step [] running may
-            ∙ sym (ap (λ (n : ℕ). soFar n (stateIn p persons)) (add-one steps ∙ ap suc (r .counted))))
+        -- the step was tried over the arrays
+        module _ (none : stopped ≡ 0) {tried : Tried} (over : tried ≡ triedIn (p .assigns) (p .revokes) persons step) where
+          running : runOf (assignsIn p) (revokesIn p) (stateIn p (p .persons)) (r .said .steps) ≡ ran (stateIn p persons)
+          unfolding soFar
+          running = r .run ∙ ap (λ (n : ℕ). soFar n (stateIn p persons)) none
 
-      ranged : {e : TraceEntry} → answer ≡ TraceLine.Good e → Ranged (p .counts .assigns) (p .counts .revokes) (p .counts .users) e
-      ranged {e} good =
-          subst (λ (n : ℕ). Ranged (p .counts .assigns) (p .counts .revokes) n e) (rows-length (p .counts .users) (p .users))
-          (good-range started (p .counts .assigns) (p .counts .revokes) (rows (p .counts .users) (p .users)) (part text at stop) (sym given ∙ good))
+          -- as over what they hold
+          tried-is : triedIn (assignsIn p) (revokesIn p) (stateIn p persons) step ≡ tried
+          unfolding assignsIn revokesIn stateIn
+          tried-is = tried-taken (p .counts .assigns) (p .counts .revokes) (p .counts .users) (p .assigns) (p .revokes) persons step ranged ∙ sym over
 
-      state-length : length (stateIn p persons) ≡ p .counts .users
-      unfolding stateIn
-      state-length = length-take (p .counts .users) persons ∙ omega (arith, r .wide, r .arrayed .counts .users)
+          may-is : possible (assignsIn p) (revokesIn p) (stateIn p persons) step ≡ tried .possible
+          unfolding assignsIn revokesIn stateIn
+          may-is =
+              tried-possible (assignsIn p) (revokesIn p) (stateIn p persons) step
+              (within step (omega (arith, length-take (p .counts .assigns) (p .assigns), r .arrayed .assigns, r .arrayed .counts .assigns))
+              (omega (arith, length-take (p .counts .revokes) (p .revokes), r .arrayed .revokes, r .arrayed .counts .revokes))
+              (omega (arith, length-take (p .counts .users) persons, r .wide, r .arrayed .counts .users)) ranged)
+              ∙ ap (λ (t : Tried). t .possible) tried-is
 
-      module _ {actor rule user : ℕ} (good : answer ≡ TraceLine.Good (TraceEntry.Step (Step.Assign actor rule user))) where
-        pub assign-range : InRange (p .counts .assigns) (p .counts .users) actor rule user
-        assign-range = ranged good
+          after-is : after (assignsIn p) (revokesIn p) (stateIn p persons) step ≡ stateIn p (set persons (tried .place) (tried .user))
+          unfolding stateIn
+          after-is =
+              let below = tried-place (p .counts .assigns) (p .counts .revokes) (p .counts .users) (p .assigns) (p .revokes) persons step ranged in
+              tried-after (assignsIn p) (revokesIn p) (stateIn p persons) step ∙ ap (λ (t : Tried). set (stateIn p persons) (t .place) (t .user)) tried-is
+              ∙ sym (take-set-lt (p .counts .users) persons (tried .place) (tried .user) (omega (arith, ap (λ (t : Tried). t .place) over, below)))
 
-        assign-test : possible (assignsIn p) (revokesIn p) (stateIn p persons) (Step.Assign actor rule user) ≡ mayAssign (assignAt (p .assigns) rule) (getD persons actor nobody) (getD persons user nobody)
-        unfolding assignsIn stateIn
-        assign-test =
-            assign-may (assignsIn p) (revokesIn p) (stateIn p persons) actor rule user (omega (arith, assign-range .ruled, length-take (p .counts .assigns) (p .assigns), r .arrayed .assigns, r .arrayed .counts .assigns))
-            (omega (arith, assign-range .acts, state-length)) (omega (arith, assign-range .used, state-length))
-            ∙ ap (λ (x : Assign). mayAssign x (person (stateIn p persons) actor) (person (stateIn p persons) user)) (assign-taken (p .assigns) (p .counts .assigns) (assign-range .ruled))
-            ∙ ap₂ (mayAssign (assignAt (p .assigns) rule)) (person-taken persons (p .counts .users) (assign-range .acts)) (person-taken persons (p .counts .users) (assign-range .used))
+          pub step-goes : tried .possible ≡ true → Reached p text (stop + 1) (number + 1) started (steps + 1) stopped (set persons (tried .place) (tried .user))
+          unfolding soFar
+          step-goes is =
+              line-step good stopped (set persons (tried .place) (tried .user)) (length-set persons (tried .place) (tried .user) ∙ r .wide)
+              (run-more (assignsIn p) (revokesIn p) (stateIn p (p .persons)) (r .said .steps) step running (may-is ∙ is) ∙ ap ran after-is
+              ∙ sym (ap (λ (n : ℕ). soFar n (stateIn p (set persons (tried .place) (tried .user)))) none))
 
-        module _ (none : stopped ≡ 0) {may : Bool} (tested : may ≡ mayAssign (assignAt (p .assigns) rule) (getD persons actor nobody) (getD persons user nobody)) where
-          pub assign-goes : {held : Person} → may ≡ true → held ≡ withTarget (assignAt (p .assigns) rule) (getD persons user nobody) → Reached p text (stop + 1) (number + 1) started (steps + 1) stopped (set persons user held)
-          unfolding assignsIn stateIn
-          assign-goes {held} is becomes =
-              step-goes none good (assign-test ∙ sym tested ∙ is) (length-set persons user held ∙ r .wide)
-              (assign-stored (assignsIn p) (revokesIn p) persons (p .counts .users) actor rule user (assign-range .used)
-              ∙ ap (λ (x : Assign). take (p .counts .users) (set persons user (withTarget x (getD persons user nobody)))) (assign-taken (p .assigns) (p .counts .assigns) (assign-range .ruled))
-              ∙ ap (λ (x : Person). take (p .counts .users) (set persons user x)) (sym becomes))
-
-          pub assign-breaks : may ≡ false → Reached p text (stop + 1) (number + 1) started (steps + 1) (steps + 1) persons
-          assign-breaks is = step-breaks none good (assign-test ∙ sym tested ∙ is)
-
-      module _ {actor rule user : ℕ} (good : answer ≡ TraceLine.Good (TraceEntry.Step (Step.Revoke actor rule user))) where
-        pub revoke-range : InRange (p .counts .revokes) (p .counts .users) actor rule user
-        revoke-range = ranged good
-
-        revoke-test : possible (assignsIn p) (revokesIn p) (stateIn p persons) (Step.Revoke actor rule user) ≡ mayRevoke (revokeAt (p .revokes) rule) (getD persons actor nobody) (getD persons user nobody)
-        unfolding revokesIn stateIn
-        revoke-test =
-            revoke-may (assignsIn p) (revokesIn p) (stateIn p persons) actor rule user (omega (arith, revoke-range .ruled, length-take (p .counts .revokes) (p .revokes), r .arrayed .revokes, r .arrayed .counts .revokes))
-            (omega (arith, revoke-range .acts, state-length)) (omega (arith, revoke-range .used, state-length))
-            ∙ ap (λ (x : Revoke). mayRevoke x (person (stateIn p persons) actor) (person (stateIn p persons) user)) (revoke-taken (p .revokes) (p .counts .revokes) (revoke-range .ruled))
-            ∙ ap₂ (mayRevoke (revokeAt (p .revokes) rule)) (person-taken persons (p .counts .users) (revoke-range .acts)) (person-taken persons (p .counts .users) (revoke-range .used))
-
-        module _ (none : stopped ≡ 0) {may : Bool} (tested : may ≡ mayRevoke (revokeAt (p .revokes) rule) (getD persons actor nobody) (getD persons user nobody)) where
-          pub revoke-goes : {held : Person} → may ≡ true → held ≡ withoutTarget (revokeAt (p .revokes) rule) (getD persons user nobody) → Reached p text (stop + 1) (number + 1) started (steps + 1) stopped (set persons user held)
-          unfolding revokesIn stateIn
-          revoke-goes {held} is becomes =
-              step-goes none good (revoke-test ∙ sym tested ∙ is) (length-set persons user held ∙ r .wide)
-              (revoke-stored (assignsIn p) (revokesIn p) persons (p .counts .users) actor rule user (revoke-range .used)
-              ∙ ap (λ (x : Revoke). take (p .counts .users) (set persons user (withoutTarget x (getD persons user nobody)))) (revoke-taken (p .revokes) (p .counts .revokes) (revoke-range .ruled))
-              ∙ ap (λ (x : Person). take (p .counts .users) (set persons user x)) (sym becomes))
-
-          pub revoke-breaks : may ≡ false → Reached p text (stop + 1) (number + 1) started (steps + 1) (steps + 1) persons
-          revoke-breaks is = step-breaks none good (revoke-test ∙ sym tested ∙ is)
+          pub step-breaks : tried .possible ≡ false → Reached p text (stop + 1) (number + 1) started (steps + 1) (steps + 1) persons
+          unfolding soFar
+          step-breaks is =
+              line-step good (steps + 1) persons (r .wide)
+              (run-breaks (assignsIn p) (revokesIn p) (stateIn p (p .persons)) (r .said .steps) step [] running (may-is ∙ is)
+              ∙ sym (ap (λ (n : ℕ). soFar n (stateIn p persons)) (add-one steps ∙ ap suc (r .counted))))
 
       -- the last line, and bytes after it
       module _ (ending : answer ≡ TraceLine.Good TraceEntry.End) where

@@ -1,11 +1,15 @@
 // The verdict on a trace: every line is read, every step tried, and the last state judged.
 ghost use mathlib.Core.Path.{_≡_};
+ghost use Rattle.steps.specs.Tests.{mayAssign, mayRevoke, withTarget, withoutTarget};
 ghost use Rattle.running.specs.Verdict.{endVerdict, traceVerdict};
 ghost use Rattle.running.specs.Layout.{Counted, saidIn};
 use evidence::trace::TraceEntry;
 use evidence::trace::TraceLine;
 use evidence::trace::code;
 use evidence::trace::read_line;
+use model::Assign;
+use model::Person;
+use model::Revoke;
 use reading::policy::Policy;
 use steps::Found;
 use steps::Step;
@@ -25,6 +29,35 @@ pub enum TraceVerdict {
     Broken(usize),
     // the number of steps
     Short(usize),
+}
+
+// A step that was tried: whether it is possible, its user's place, and its user after it.
+struct Tried {
+    possible: bool,
+    place: usize,
+    user: Person,
+}
+
+// An assign step by the rule, on the user at a place.
+fn try_assign(rule: Assign, actor: Person, user: Person, place: usize) -> Tried
+    ensures { λ r. ⌜ (r .possible ≡ mayAssign rule actor user) × (r .place ≡ place) × (r .user ≡ withTarget rule user) ⌝ }
+{
+    Tried {
+        possible: may_assign(rule, actor, user),
+        place,
+        user: given(rule, user),
+    }
+}
+
+// A revoke step by the rule, on the user at a place.
+fn try_revoke(rule: Revoke, actor: Person, user: Person, place: usize) -> Tried
+    ensures { λ r. ⌜ (r .possible ≡ mayRevoke rule actor user) × (r .place ≡ place) × (r .user ≡ withoutTarget rule user) ⌝ }
+{
+    Tried {
+        possible: may_revoke(rule, actor, user),
+        place,
+        user: taken(rule, user),
+    }
 }
 
 // The verdict on a trace that was read: the first step that is not one, 0 where there is none, then who was found in the last state.
@@ -76,25 +109,20 @@ pub fn run_trace(text: &[u8], p: Policy) -> TraceVerdict
             TraceEntry::Step(step) => {
                 steps += 1;
                 if broken == 0 {
-                    match step {
+                    let tried = match step {
                         Step::Assign { actor, rule, user } => {
-                            let assign = p.assigns[rule];
-                            let held = persons[user];
-                            if may_assign(assign, persons[actor], held) {
-                                persons[user] = given(assign, held);
-                            } else {
-                                broken = steps;
-                            }
+                            try_assign(p.assigns[rule], persons[actor], persons[user], user)
                         }
                         Step::Revoke { actor, rule, user } => {
-                            let revoke = p.revokes[rule];
-                            let held = persons[user];
-                            if may_revoke(revoke, persons[actor], held) {
-                                persons[user] = taken(revoke, held);
-                            } else {
-                                broken = steps;
-                            }
+                            try_revoke(p.revokes[rule], persons[actor], persons[user], user)
                         }
+                    };
+                    if tried.possible {
+                        let place = tried.place;
+                        let user = tried.user;
+                        persons[place] = user;
+                    } else {
+                        broken = steps;
                     }
                 }
             }

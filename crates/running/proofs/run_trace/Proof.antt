@@ -2,17 +2,20 @@
 use Prim.Native.Nat.{ℕ, _+_, _-_, _<_}
 use borrow.Author.Needs.{needs}
 use lib.ListN.{length, length-map}
-use mathlib.Core.Path.{_≡_, ap, _∙_}
+use mathlib.Core.Logic.{⊎-elim}
+use mathlib.Core.Path.{_≡_, sym, ap, subst, _∙_}
 use native.Mathlib.Omega.{arith}
-use Rattle.model.specs.Policy.{nobody}
+use Rattle.model.specs.Policy.{nobody, person}
 use Rattle.roles.specs.Sets.{emptySet}
 use Rattle.evidence.specs.TraceText.{codeOf}
 use Rattle.evidence.specs.declared.trace.TraceEntry.{TraceEntry}
 use Rattle.evidence.specs.declared.trace.TraceLine.{TraceLine}
 use Rattle.steps.specs.declared.Step.{Step}
 use Rattle.steps.specs.Traces.{assignAt, revokeAt}
-use Rattle.running.specs.Range.{InRange, within}
-use Rattle.running.specs.Reached.{Reached, stateIn, refused-long, reached-start, reached-end, reached-tail, line-refused, line-header, step-passed, assign-range, assign-goes, assign-breaks, revoke-range, revoke-goes, revoke-breaks, line-last, line-more}
+use Rattle.running.specs.Range.{InRange, Ranged}
+use Rattle.running.specs.Trying.{triedIn, tried-place}
+use Rattle.running.specs.Reached.{Reached, stateIn, refused-long, reached-start, reached-end, reached-tail, line-refused, line-header, step-passed, step-range, step-goes, step-breaks, line-last, line-more}
+use Rattle.running.specs.declared.Tried.{Tried}
 use Rattle.running.specs.declared.TraceVerdict.{TraceVerdict}
 use Rattle.running.proofs.run_trace.Statement.{statement}
 use Rattle.running.proofs.run_trace.Tie as tie
@@ -31,27 +34,34 @@ inside c = omega (arith, c .before .before .before .before .before .before .seek
 nearer : (c : tie.After-read-line Inv-loop μ-loop) → length (c .before .before .before .before .before .before .before .before .before .before .before .before .before .before .args .text .now) - (c .before .before .before .before .before .before .seek .result + 1) < length (c .before .before .before .before .before .before .before .before .before .before .before .before .before .before .args .text .now) - c .before .before .before .before .before .before .before .before .loop .at
 nearer c = omega (arith, c .before .before .before .before .before .before .seek .ensures, c .before .before .before .before .before .before .before .loop-test .taken)
 
--- after an assign step was taken apart: what the line says, and that its places are in range
-assign-said : (c : tie.After-known-told3 Inv-loop μ-loop)
-    → c .before .before .before .before .before .before .before .before .before .before .read-line .result ≡ TraceLine.Good (TraceEntry.Step (Step.Assign (c .before .step .given .0 .0) (c .before .step .given .0 .1 .0) (c .before .step .given .0 .1 .1 .0)))
-assign-said c = c .before .before .before .before .before .before .before .before .answer .given .1 ∙ ap TraceLine.Good (c .before .before .before .before .before .entry .given .1 ∙ ap TraceEntry.Step (c .before .step .given .1))
+-- where a step is tried: what the line says, and that its places are in range
+step-said : (c : tie.Then3 Inv-loop μ-loop) → c .before .before .before .before .before .before .before .read-line .result ≡ TraceLine.Good (TraceEntry.Step (c .before .before .entry .given .0 .0))
+step-said c = c .before .before .before .before .before .answer .given .1 ∙ ap TraceLine.Good (c .before .before .entry .given .1)
+
+step-places : (c : tie.Then3 Inv-loop μ-loop) → Ranged 256 256 64 (TraceEntry.Step (c .before .before .entry .given .0 .0))
+step-places c =
+    let line = c .before .before .before .before .before .before .before in
+    step-range (line .before .before .before .before .before .before .before .before .loop .inv) (line .before .before .before .before .before .before .seek .ensures) (inside line) (line .read-line .ensures) (step-said c)
 
 assign-places : (c : tie.After-known-told3 Inv-loop μ-loop) → InRange 256 64 (c .before .step .given .0 .0) (c .before .step .given .0 .1 .0) (c .before .step .given .0 .1 .1 .0)
-assign-places c =
-    let line = c .before .before .before .before .before .before .before .before .before .before in
-    let known = assign-range (line .before .before .before .before .before .before .before .before .loop .inv) (line .before .before .before .before .before .before .seek .ensures) (inside line) (line .read-line .ensures) (assign-said c) in
-    within known (line .before .before .before .before .before .before .before .before .before .before .before .before .before .before .pre .assigns) (line .before .before .before .before .before .before .before .before .before .before .before .before .before .before .pre .users)
-
--- a revoke step likewise
-revoke-said : (c : tie.After-known-told4 Inv-loop μ-loop)
-    → c .before .before .before .before .before .before .before .before .before .before .read-line .result ≡ TraceLine.Good (TraceEntry.Step (Step.Revoke (c .before .step2 .given .0 .0) (c .before .step2 .given .0 .1 .0) (c .before .step2 .given .0 .1 .1 .0)))
-revoke-said c = c .before .before .before .before .before .before .before .before .answer .given .1 ∙ ap TraceLine.Good (c .before .before .before .before .before .entry .given .1 ∙ ap TraceEntry.Step (c .before .step2 .given .1))
+assign-places c = subst (λ (s : Step). Ranged 256 256 64 (TraceEntry.Step s)) (c .before .step .given .1) (step-places (c .before .before .before))
 
 revoke-places : (c : tie.After-known-told4 Inv-loop μ-loop) → InRange 256 64 (c .before .step2 .given .0 .0) (c .before .step2 .given .0 .1 .0) (c .before .step2 .given .0 .1 .1 .0)
-revoke-places c =
-    let line = c .before .before .before .before .before .before .before .before .before .before in
-    let known = revoke-range (line .before .before .before .before .before .before .before .before .loop .inv) (line .before .before .before .before .before .before .seek .ensures) (inside line) (line .read-line .ensures) (revoke-said c) in
-    within known (line .before .before .before .before .before .before .before .before .before .before .before .before .before .before .pre .revokes) (line .before .before .before .before .before .before .before .before .before .before .before .before .before .before .pre .users)
+revoke-places c = subst (λ (s : Step). Ranged 256 256 64 (TraceEntry.Step s)) (c .before .step2 .given .1) (step-places (c .before .before .before))
+
+-- either way it is tried over the arrays, on one of the users
+abbrev tried-over : tie.Then3 Inv-loop μ-loop → Step → Tried
+tried-over c = triedIn (c .before .before .before .before .before .before .before .before .before .before .before .before .before .before .before .before .before .before .before .before .before .args .t2 .assigns) (c .before .before .before .before .before .before .before .before .before .before .before .before .before .before .before .before .before .before .before .before .before .args .t2 .revokes) (c .before .before .before .before .before .before .before .before .before .before .before .before .before .before .before .loop .persons)
+
+tried-said : (c : tie.At-match3-came Inv-loop μ-loop) → c .match3 .tried ≡ tried-over (c .before) (c .before .before .before .entry .given .0 .0)
+unfolding nobody emptySet assignAt revokeAt person triedIn
+tried-said c =
+    ⊎-elim (λ w. w .7 ∙ (λ i. record { possible = w .6 .ensures .0 i; place = w .6 .ensures .1 i; user = w .6 .ensures .2 i }) ∙ sym (ap (tried-over (c .before)) (w .1 .given .1)))
+    (λ w. w .7 ∙ (λ i. record { possible = w .6 .ensures .0 i; place = w .6 .ensures .1 i; user = w .6 .ensures .2 i }) ∙ sym (ap (tried-over (c .before)) (w .1 .given .1)))
+    (c .match3 .came)
+
+stored-place : (c : tie.At-match3-came Inv-loop μ-loop) → c .match3 .tried .place < 64
+stored-place c = subst (λ (t : Tried). t .place < 64) (sym (tried-said c)) (tried-place 256 256 64 _ _ _ (c .before .before .before .entry .given .0 .0) (step-places (c .before)))
 
 returns : tie.Need-returns Inv-loop μ-loop
 returns c = refused-long _ _ (c .if1 .taken)
@@ -125,110 +135,78 @@ add-steps c = omega (arith, (c .before .before .before .before .before .before .
 enum-known-step : tie.Need-enum-known-step Inv-loop μ-loop
 enum-known-step c = search needs
 
-mul-assign : tie.Need-mul-assign Inv-loop μ-loop
-mul-assign c = omega (arith, assign-places c)
+mul-try-assign : tie.Need-mul-try-assign Inv-loop μ-loop
+mul-try-assign c = omega (arith, assign-places c)
 
-element-copy-out-assign : tie.Need-element-copy-out-assign Inv-loop μ-loop
-element-copy-out-assign c = assign-places c .ruled
+element-copy-out-try-assign : tie.Need-element-copy-out-try-assign Inv-loop μ-loop
+element-copy-out-try-assign c = assign-places c .ruled
 
-mul-held : tie.Need-mul-held Inv-loop μ-loop
-mul-held c = omega (arith, assign-places (c .before))
+mul-try-assign-2 : tie.Need-mul-try-assign-2 Inv-loop μ-loop
+mul-try-assign-2 c = omega (arith, assign-places (c .before))
 
-array-copy-out-held : tie.Need-array-copy-out-held Inv-loop μ-loop
-array-copy-out-held c = assign-places (c .before) .used
+array-copy-out-try-assign : tie.Need-array-copy-out-try-assign Inv-loop μ-loop
+array-copy-out-try-assign c = assign-places (c .before) .acts
 
-mul-may-assign : tie.Need-mul-may-assign Inv-loop μ-loop
-mul-may-assign c = omega (arith, assign-places (c .before .before))
+mul-try-assign-3 : tie.Need-mul-try-assign-3 Inv-loop μ-loop
+mul-try-assign-3 c = omega (arith, assign-places (c .before .before))
 
-array-copy-out-may-assign : tie.Need-array-copy-out-may-assign Inv-loop μ-loop
-array-copy-out-may-assign c = assign-places (c .before .before) .acts
+array-copy-out-try-assign-2 : tie.Need-array-copy-out-try-assign-2 Inv-loop μ-loop
+array-copy-out-try-assign-2 c = assign-places (c .before .before) .used
 
-may-assign-requires : tie.Need-may-assign-requires Inv-loop μ-loop
-may-assign-requires c κs = search needs
-
-given-requires : tie.Need-given-requires Inv-loop μ-loop
-given-requires c κs = search needs
-
-mul-persons : tie.Need-mul-persons Inv-loop μ-loop
-mul-persons c = omega (arith, assign-places (c .before .before .before .before .before .before))
-
-array-set-from-persons : tie.Need-array-set-from-persons Inv-loop μ-loop
-array-set-from-persons c = assign-places (c .before .before .before .before .before .before) .used
-
-loop-less-2 : tie.Need-loop-less-2 Inv-loop μ-loop
-loop-less-2 c = nearer (c .before .before .before .before .before .before .before .before .before .before .before .before .before .before .before .before)
-
-loop-again-2 : tie.Need-loop-again-2 Inv-loop μ-loop
-unfolding nobody emptySet assignAt
-loop-again-2 c =
-    let line = c .before .before .before .before .before .before .before .before .before .before .before .before .before .before .before .before in
-    assign-goes (line .before .before .before .before .before .before .before .before .loop .inv) (line .before .before .before .before .before .before .seek .ensures) (inside line) (line .read-line .ensures) (assign-said (c .before .before .before .before .before .before)) (c .before .before .before .before .before .before .before .before .before .if3 .taken) (c .before .before .may-assign .ensures) (c .before .if4 .taken) (c .given .ensures)
-
-loop-less-3 : tie.Need-loop-less-3 Inv-loop μ-loop
-loop-less-3 c = nearer (c .before .before .before .before .before .before .before .before .before .before .before .before .before .before .before)
-
-loop-again-3 : tie.Need-loop-again-3 Inv-loop μ-loop
-unfolding nobody emptySet assignAt
-loop-again-3 c =
-    let line = c .before .before .before .before .before .before .before .before .before .before .before .before .before .before .before in
-    assign-breaks (line .before .before .before .before .before .before .before .before .loop .inv) (line .before .before .before .before .before .before .seek .ensures) (inside line) (line .read-line .ensures) (assign-said (c .before .before .before .before .before)) (c .before .before .before .before .before .before .before .before .if3 .taken) (c .before .may-assign .ensures) (c .if4 .left)
+try-assign-requires : tie.Need-try-assign-requires Inv-loop μ-loop
+try-assign-requires c κs = search needs
 
 enum-known-step-2 : tie.Need-enum-known-step-2 Inv-loop μ-loop
 enum-known-step-2 c = search needs
 
-mul-revoke : tie.Need-mul-revoke Inv-loop μ-loop
-mul-revoke c = omega (arith, revoke-places c)
+mul-try-revoke : tie.Need-mul-try-revoke Inv-loop μ-loop
+mul-try-revoke c = omega (arith, revoke-places c)
 
-element-copy-out-revoke : tie.Need-element-copy-out-revoke Inv-loop μ-loop
-element-copy-out-revoke c = revoke-places c .ruled
+element-copy-out-try-revoke : tie.Need-element-copy-out-try-revoke Inv-loop μ-loop
+element-copy-out-try-revoke c = revoke-places c .ruled
 
-mul-held-2 : tie.Need-mul-held-2 Inv-loop μ-loop
-mul-held-2 c = omega (arith, revoke-places (c .before))
+mul-try-revoke-2 : tie.Need-mul-try-revoke-2 Inv-loop μ-loop
+mul-try-revoke-2 c = omega (arith, revoke-places (c .before))
 
-array-copy-out-held-2 : tie.Need-array-copy-out-held-2 Inv-loop μ-loop
-array-copy-out-held-2 c = revoke-places (c .before) .used
+array-copy-out-try-revoke : tie.Need-array-copy-out-try-revoke Inv-loop μ-loop
+array-copy-out-try-revoke c = revoke-places (c .before) .acts
 
-mul-may-revoke : tie.Need-mul-may-revoke Inv-loop μ-loop
-mul-may-revoke c = omega (arith, revoke-places (c .before .before))
+mul-try-revoke-3 : tie.Need-mul-try-revoke-3 Inv-loop μ-loop
+mul-try-revoke-3 c = omega (arith, revoke-places (c .before .before))
 
-array-copy-out-may-revoke : tie.Need-array-copy-out-may-revoke Inv-loop μ-loop
-array-copy-out-may-revoke c = revoke-places (c .before .before) .acts
+array-copy-out-try-revoke-2 : tie.Need-array-copy-out-try-revoke-2 Inv-loop μ-loop
+array-copy-out-try-revoke-2 c = revoke-places (c .before .before) .used
 
-may-revoke-requires : tie.Need-may-revoke-requires Inv-loop μ-loop
-may-revoke-requires c κs = search needs
+try-revoke-requires : tie.Need-try-revoke-requires Inv-loop μ-loop
+try-revoke-requires c κs = search needs
 
-taken-requires : tie.Need-taken-requires Inv-loop μ-loop
-taken-requires c κs = search needs
+mul-persons : tie.Need-mul-persons Inv-loop μ-loop
+mul-persons c = omega (arith, stored-place (c .before .before))
 
-mul-persons-2 : tie.Need-mul-persons-2 Inv-loop μ-loop
-mul-persons-2 c = omega (arith, revoke-places (c .before .before .before .before .before .before))
+array-set-from-persons : tie.Need-array-set-from-persons Inv-loop μ-loop
+array-set-from-persons c = stored-place (c .before .before)
 
-array-set-from-persons-2 : tie.Need-array-set-from-persons-2 Inv-loop μ-loop
-array-set-from-persons-2 c = revoke-places (c .before .before .before .before .before .before) .used
+loop-less-2 : tie.Need-loop-less-2 Inv-loop μ-loop
+loop-less-2 c = nearer (c .before .before .before .before .before .before .before .before .before .before)
+
+loop-again-2 : tie.Need-loop-again-2 Inv-loop μ-loop
+loop-again-2 c =
+    let line = c .before .before .before .before .before .before .before .before .before .before in
+    step-goes (line .before .before .before .before .before .before .before .before .loop .inv) (line .before .before .before .before .before .before .seek .ensures) (inside line) (line .read-line .ensures) (step-said (c .before .before .before)) (c .before .before .before .if3 .taken) (tried-said (c .before .before)) (c .before .if4 .taken)
+
+loop-less-3 : tie.Need-loop-less-3 Inv-loop μ-loop
+loop-less-3 c = nearer (c .before .before .before .before .before .before .before .before .before)
+
+loop-again-3 : tie.Need-loop-again-3 Inv-loop μ-loop
+loop-again-3 c =
+    let line = c .before .before .before .before .before .before .before .before .before in
+    step-breaks (line .before .before .before .before .before .before .before .before .loop .inv) (line .before .before .before .before .before .before .seek .ensures) (inside line) (line .read-line .ensures) (step-said (c .before .before)) (c .before .before .if3 .taken) (tried-said (c .before)) (c .if4 .left)
 
 loop-less-4 : tie.Need-loop-less-4 Inv-loop μ-loop
-loop-less-4 c = nearer (c .before .before .before .before .before .before .before .before .before .before .before .before .before .before .before .before)
+loop-less-4 c = nearer (c .before .before .before .before .before .before .before)
 
 loop-again-4 : tie.Need-loop-again-4 Inv-loop μ-loop
-unfolding nobody emptySet revokeAt
 loop-again-4 c =
-    let line = c .before .before .before .before .before .before .before .before .before .before .before .before .before .before .before .before in
-    revoke-goes (line .before .before .before .before .before .before .before .before .loop .inv) (line .before .before .before .before .before .before .seek .ensures) (inside line) (line .read-line .ensures) (revoke-said (c .before .before .before .before .before .before)) (c .before .before .before .before .before .before .before .before .before .if3 .taken) (c .before .before .may-revoke .ensures) (c .before .if5 .taken) (c .taken .ensures)
-
-loop-less-5 : tie.Need-loop-less-5 Inv-loop μ-loop
-loop-less-5 c = nearer (c .before .before .before .before .before .before .before .before .before .before .before .before .before .before .before)
-
-loop-again-5 : tie.Need-loop-again-5 Inv-loop μ-loop
-unfolding nobody emptySet revokeAt
-loop-again-5 c =
-    let line = c .before .before .before .before .before .before .before .before .before .before .before .before .before .before .before in
-    revoke-breaks (line .before .before .before .before .before .before .before .before .loop .inv) (line .before .before .before .before .before .before .seek .ensures) (inside line) (line .read-line .ensures) (revoke-said (c .before .before .before .before .before)) (c .before .before .before .before .before .before .before .before .if3 .taken) (c .before .may-revoke .ensures) (c .if5 .left)
-
-loop-less-6 : tie.Need-loop-less-6 Inv-loop μ-loop
-loop-less-6 c = nearer (c .before .before .before .before .before .before .before)
-
-loop-again-6 : tie.Need-loop-again-6 Inv-loop μ-loop
-loop-again-6 c =
     let line = c .before .before .before .before .before .before .before in
     step-passed (line .before .before .before .before .before .before .before .before .loop .inv) (line .before .before .before .before .before .before .seek .ensures) (inside line) (line .read-line .ensures) (c .before .before .before .before .before .answer .given .1 ∙ ap TraceLine.Good (c .before .before .entry .given .1)) (c .if3 .left)
 
@@ -238,7 +216,7 @@ enum-told-3 c = search needs
 returns-4 : tie.Need-returns-4 Inv-loop μ-loop
 returns-4 c =
     let line = c .before .before .before .before .before .before in
-    line-more (line .before .before .before .before .before .before .before .before .loop .inv) (line .before .before .before .before .before .before .seek .ensures) (inside line) (line .read-line .ensures) (c .before .before .before .before .answer .given .1 ∙ ap TraceLine.Good (c .before .enum-told3 .given .1)) (c .if6 .taken)
+    line-more (line .before .before .before .before .before .before .before .before .loop .inv) (line .before .before .before .before .before .before .seek .ensures) (inside line) (line .read-line .ensures) (c .before .before .before .before .answer .given .1 ∙ ap TraceLine.Good (c .before .enum-told3 .given .1)) (c .if5 .taken)
 
 first-bad-requires : tie.Need-first-bad-requires Inv-loop μ-loop
 first-bad-requires c κs = search needs
@@ -250,7 +228,7 @@ returns-5 : tie.Need-returns-5 Inv-loop μ-loop
 unfolding stateIn
 returns-5 c =
     let line = c .before .before .before .before .before .before .before .before in
-    line-last (line .before .before .before .before .before .before .before .before .loop .inv) (line .before .before .before .before .before .before .seek .ensures) (inside line) (line .read-line .ensures) (c .before .before .before .before .before .before .answer .given .1 ∙ ap TraceLine.Good (c .before .before .before .enum-told3 .given .1)) (c .before .before .if6 .left) (c .before .first-bad .ensures) (c .ending .ensures)
+    line-last (line .before .before .before .before .before .before .before .before .loop .inv) (line .before .before .before .before .before .before .seek .ensures) (inside line) (line .read-line .ensures) (c .before .before .before .before .before .before .answer .given .1 ∙ ap TraceLine.Good (c .before .before .before .enum-told3 .given .1)) (c .before .before .if5 .left) (c .before .first-bad .ensures) (c .ending .ensures)
 
 returns-6 : tie.Need-returns-6 Inv-loop μ-loop
 returns-6 c = reached-end (c .before .loop .inv) (c .loop-test .left)
@@ -281,37 +259,29 @@ run-trace-spec =
     enum-known-entry
     add-steps
     enum-known-step
-    mul-assign
-    element-copy-out-assign
-    mul-held
-    array-copy-out-held
-    mul-may-assign
-    array-copy-out-may-assign
-    may-assign-requires
-    given-requires
+    mul-try-assign
+    element-copy-out-try-assign
+    mul-try-assign-2
+    array-copy-out-try-assign
+    mul-try-assign-3
+    array-copy-out-try-assign-2
+    try-assign-requires
+    enum-known-step-2
+    mul-try-revoke
+    element-copy-out-try-revoke
+    mul-try-revoke-2
+    array-copy-out-try-revoke
+    mul-try-revoke-3
+    array-copy-out-try-revoke-2
+    try-revoke-requires
     mul-persons
     array-set-from-persons
     loop-less-2
     loop-again-2
     loop-less-3
     loop-again-3
-    enum-known-step-2
-    mul-revoke
-    element-copy-out-revoke
-    mul-held-2
-    array-copy-out-held-2
-    mul-may-revoke
-    array-copy-out-may-revoke
-    may-revoke-requires
-    taken-requires
-    mul-persons-2
-    array-set-from-persons-2
     loop-less-4
     loop-again-4
-    loop-less-5
-    loop-again-5
-    loop-less-6
-    loop-again-6
     enum-told-3
     returns-4
     first-bad-requires

@@ -1,11 +1,8 @@
 -- `read_line` goes from tab to tab: the fields passed and the pieces of what is left are those of the line.
-use Prim.Native.Nat.{_+_}
 use borrow.Author.Needs.{needs}
-use mathlib.Core.List.{[]}
-use mathlib.Core.Path.{sym, ap, _∙_}
-use native.Mathlib.Omega.{arith}
-use Rattle.evidence.specs.TraceLines.{judged, traceLine, other-judged, line-one, line-two, line-three, line-four, line-more}
-use Rattle.text.specs.Pieces.{passed-none, passed-next, passed-last, part-short}
+use mathlib.Core.Path.{_∙_}
+use Rattle.evidence.specs.Cutting.{one-field, two-fields, three-fields, four-fields, more-fields}
+use Rattle.evidence.specs.TraceLines.{lineOf, other-judged, by-fields}
 use Rattle.evidence.proofs.trace.read_line.Statement.{statement}
 use Rattle.evidence.proofs.trace.read_line.Tie as tie
 
@@ -25,8 +22,8 @@ end-line-requires : tie.Need-end-line-requires
 end-line-requires c κs = search needs
 
 returns : tie.Need-returns
-unfolding traceLine
-returns c = c .end-line .ensures _ _ _ ∙ ap (judged _ _ _ _) (line-one _ (passed-last 9 (c .before .before .before .before .before .before .args .line .now) [] 0 (c .before .before .before .seek .result) (passed-none 9 _) (c .before .before .before .seek .ensures) (c .before .if1 .taken)))
+unfolding lineOf
+returns c = c .end-line .ensures _ _ _ ∙ by-fields _ _ _ _ _ (one-field (c .before .before .before .seek .ensures) (c .before .if1 .taken))
 
 add-seek : tie.Need-add-seek
 add-seek c = search needs
@@ -50,8 +47,8 @@ header-line-requires : tie.Need-header-line-requires
 header-line-requires c κs = search needs
 
 returns-2 : tie.Need-returns-2
-unfolding traceLine
-returns-2 c = let one = passed-next 9 (c .before .before .before .before .before .before .before .before .before .args .line .now) [] 0 (c .before .before .before .before .before .before .seek .result) (passed-none 9 _) (c .before .before .before .before .before .before .seek .ensures) (omega (arith, c .before .before .before .before .before .before .seek .ensures, c .before .before .before .before .if1 .left)) in c .header-line .ensures _ _ _ ∙ ap (judged _ _ _ _) (line-two _ (passed-last 9 (c .before .before .before .before .before .before .before .before .before .args .line .now) _ (c .before .before .before .before .before .before .seek .result + 1) (c .before .before .before .seek2 .result) (one) (c .before .before .before .seek2 .ensures) (c .before .if2 .taken)))
+unfolding lineOf
+returns-2 c = c .header-line .ensures _ _ _ ∙ by-fields _ _ _ _ _ (two-fields (c .before .before .before .before .before .before .seek .ensures) (c .before .before .before .before .if1 .left) (c .before .before .before .seek2 .ensures) (c .before .if2 .taken))
 
 add-seek-2 : tie.Need-add-seek-2
 add-seek-2 c = search needs
@@ -60,8 +57,8 @@ seek-requires-3 : tie.Need-seek-requires-3
 seek-requires-3 c κs = search needs
 
 returns-3 : tie.Need-returns-3
-unfolding traceLine
-returns-3 c = let one = passed-next 9 (c .before .before .before .before .before .before .before .before .before .before .args .line .now) [] 0 (c .before .before .before .before .before .before .before .seek .result) (passed-none 9 _) (c .before .before .before .before .before .before .before .seek .ensures) (omega (arith, c .before .before .before .before .before .before .before .seek .ensures, c .before .before .before .before .before .if1 .left)) in let two = passed-next 9 (c .before .before .before .before .before .before .before .before .before .before .args .line .now) _ (c .before .before .before .before .before .before .before .seek .result + 1) (c .before .before .before .before .seek2 .result) (one) (c .before .before .before .before .seek2 .ensures) (omega (arith, c .before .before .before .before .seek2 .ensures, c .before .before .if2 .left)) in other-judged _ _ _ _ ∙ ap (judged _ _ _ _) (line-three _ (passed-last 9 (c .before .before .before .before .before .before .before .before .before .before .args .line .now) _ (c .before .before .before .before .seek2 .result + 1) (c .before .seek3 .result) (two) (c .before .seek3 .ensures) (c .if3 .taken)))
+unfolding lineOf
+returns-3 c = other-judged _ _ _ _ ∙ by-fields _ _ _ _ _ (three-fields (c .before .before .before .before .before .before .before .seek .ensures) (c .before .before .before .before .before .if1 .left) (c .before .before .before .before .seek2 .ensures) (c .before .before .if2 .left) (c .before .seek3 .ensures) (c .if3 .taken))
 
 add-seek-3 : tie.Need-add-seek-3
 add-seek-3 c = search needs
@@ -70,8 +67,8 @@ seek-requires-4 : tie.Need-seek-requires-4
 seek-requires-4 c κs = search needs
 
 returns-4 : tie.Need-returns-4
-unfolding traceLine
-returns-4 c = let one = passed-next 9 (c .before .before .before .before .before .before .before .before .before .before .before .before .args .line .now) [] 0 (c .before .before .before .before .before .before .before .before .before .seek .result) (passed-none 9 _) (c .before .before .before .before .before .before .before .before .before .seek .ensures) (omega (arith, c .before .before .before .before .before .before .before .before .before .seek .ensures, c .before .before .before .before .before .before .before .if1 .left)) in let two = passed-next 9 (c .before .before .before .before .before .before .before .before .before .before .before .before .args .line .now) _ (c .before .before .before .before .before .before .before .before .before .seek .result + 1) (c .before .before .before .before .before .before .seek2 .result) (one) (c .before .before .before .before .before .before .seek2 .ensures) (omega (arith, c .before .before .before .before .before .before .seek2 .ensures, c .before .before .before .before .if2 .left)) in let three = passed-next 9 (c .before .before .before .before .before .before .before .before .before .before .before .before .args .line .now) _ (c .before .before .before .before .before .before .seek2 .result + 1) (c .before .before .before .seek3 .result) (two) (c .before .before .before .seek3 .ensures) (omega (arith, c .before .before .before .seek3 .ensures, c .before .before .if3 .left)) in let four = passed-next 9 (c .before .before .before .before .before .before .before .before .before .before .before .before .args .line .now) _ (c .before .before .before .seek3 .result + 1) (c .before .seek4 .result) (three) (c .before .seek4 .ensures) (omega (arith, c .before .seek4 .ensures, c .if4 .taken)) in other-judged _ _ _ _ ∙ ap (judged _ _ _ _) (line-more _ _ (four .pieces))
+unfolding lineOf
+returns-4 c = other-judged _ _ _ _ ∙ by-fields _ _ _ _ _ (more-fields (c .before .before .before .before .before .before .before .before .before .seek .ensures) (c .before .before .before .before .before .before .before .if1 .left) (c .before .before .before .before .before .before .seek2 .ensures) (c .before .before .before .before .if2 .left) (c .before .before .before .seek3 .ensures) (c .before .before .if3 .left) (c .before .seek4 .ensures) (c .if4 .taken) .2)
 
 add-step-line : tie.Need-add-step-line
 add-step-line c = search needs
@@ -101,8 +98,8 @@ step-line-requires : tie.Need-step-line-requires
 step-line-requires c κs = search needs
 
 returns-5 : tie.Need-returns-5
-unfolding traceLine
-returns-5 c = let one = passed-next 9 (c .before .before .before .before .before .before .before .before .before .before .before .before .before .before .before .args .line .now) [] 0 (c .before .before .before .before .before .before .before .before .before .before .before .before .seek .result) (passed-none 9 _) (c .before .before .before .before .before .before .before .before .before .before .before .before .seek .ensures) (omega (arith, c .before .before .before .before .before .before .before .before .before .before .before .before .seek .ensures, c .before .before .before .before .before .before .before .before .before .before .if1 .left)) in let two = passed-next 9 (c .before .before .before .before .before .before .before .before .before .before .before .before .before .before .before .args .line .now) _ (c .before .before .before .before .before .before .before .before .before .before .before .before .seek .result + 1) (c .before .before .before .before .before .before .before .before .before .seek2 .result) (one) (c .before .before .before .before .before .before .before .before .before .seek2 .ensures) (omega (arith, c .before .before .before .before .before .before .before .before .before .seek2 .ensures, c .before .before .before .before .before .before .before .if2 .left)) in let three = passed-next 9 (c .before .before .before .before .before .before .before .before .before .before .before .before .before .before .before .args .line .now) _ (c .before .before .before .before .before .before .before .before .before .seek2 .result + 1) (c .before .before .before .before .before .before .seek3 .result) (two) (c .before .before .before .before .before .before .seek3 .ensures) (omega (arith, c .before .before .before .before .before .before .seek3 .ensures, c .before .before .before .before .before .if3 .left)) in c .step-line .ensures ∙ ap (judged _ _ _ _) (line-four _ (passed-last 9 (c .before .before .before .before .before .before .before .before .before .before .before .before .before .before .before .args .line .now) _ (c .before .before .before .before .before .before .seek3 .result + 1) (c .before .before .before .before .seek4 .result) (three) (c .before .before .before .before .seek4 .ensures) (omega (arith, c .before .before .before .before .seek4 .ensures, c .before .before .before .if4 .left))))
+unfolding lineOf
+returns-5 c = c .step-line .ensures ∙ by-fields _ _ _ _ _ (four-fields (c .before .before .before .before .before .before .before .before .before .before .before .before .seek .ensures) (c .before .before .before .before .before .before .before .before .before .before .if1 .left) (c .before .before .before .before .before .before .before .before .before .seek2 .ensures) (c .before .before .before .before .before .before .before .if2 .left) (c .before .before .before .before .before .before .seek3 .ensures) (c .before .before .before .before .before .if3 .left) (c .before .before .before .before .seek4 .ensures) (c .before .before .before .if4 .left))
 
 pub read-line-spec : {M : Type 1} → statement M
 read-line-spec =

@@ -1,12 +1,11 @@
 -- `read_line` goes from tab to tab: the fields passed and the pieces of what is left are those of the line.
 use Prim.Native.Nat.{_+_}
 use borrow.Author.Needs.{needs}
-use mathlib.Core.List.{[]}
-use mathlib.Core.Path.{sym, ap, _∙_}
-use native.Mathlib.Omega.{arith}
-use Rattle.evidence.specs.TypingLines.{judged, typingLine, other-judged, line-one, line-two, line-three, line-four, line-more}
+use mathlib.Core.Path.{_∙_}
+use Rattle.evidence.specs.Cutting.{one-field, two-fields, three-fields, four-fields, more-fields}
+use Rattle.evidence.specs.TypingLines.{lineOf, other-judged, by-fields}
 use Rattle.text.specs.Names.{rows, rows-length}
-use Rattle.text.specs.Pieces.{passed-none, passed-next, passed-last, part-short}
+use Rattle.text.specs.Pieces.{part-short}
 use Rattle.evidence.proofs.typing.read_line.Statement.{statement}
 use Rattle.evidence.proofs.typing.read_line.Tie as tie
 
@@ -26,8 +25,8 @@ end-line-requires : tie.Need-end-line-requires
 end-line-requires c κs = search needs
 
 returns : tie.Need-returns
-unfolding typingLine
-returns c = c .end-line .ensures (rows (c .before .before .before .before .before .before .args .count) (c .before .before .before .before .before .before .args .roles .now)) (rows-length _ _) ∙ ap (judged _ _) (line-one _ (passed-last 9 (c .before .before .before .before .before .before .args .line .now) [] 0 (c .before .before .before .seek .result) (passed-none 9 _) (c .before .before .before .seek .ensures) (c .before .if1 .taken)))
+unfolding lineOf
+returns c = c .end-line .ensures (rows (c .before .before .before .before .before .before .args .count) (c .before .before .before .before .before .before .args .roles .now)) (rows-length _ _) ∙ by-fields _ _ _ (one-field (c .before .before .before .seek .ensures) (c .before .if1 .taken))
 
 add-seek : tie.Need-add-seek
 add-seek c = search needs
@@ -51,8 +50,8 @@ header-line-requires : tie.Need-header-line-requires
 header-line-requires c κs = search needs
 
 returns-2 : tie.Need-returns-2
-unfolding typingLine
-returns-2 c = let one = passed-next 9 (c .before .before .before .before .before .before .before .before .before .args .line .now) [] 0 (c .before .before .before .before .before .before .seek .result) (passed-none 9 _) (c .before .before .before .before .before .before .seek .ensures) (omega (arith, c .before .before .before .before .before .before .seek .ensures, c .before .before .before .before .if1 .left)) in c .header-line .ensures _ ∙ ap (judged _ _) (line-two _ (passed-last 9 (c .before .before .before .before .before .before .before .before .before .args .line .now) _ (c .before .before .before .before .before .before .seek .result + 1) (c .before .before .before .seek2 .result) (one) (c .before .before .before .seek2 .ensures) (c .before .if2 .taken)))
+unfolding lineOf
+returns-2 c = c .header-line .ensures _ ∙ by-fields _ _ _ (two-fields (c .before .before .before .before .before .before .seek .ensures) (c .before .before .before .before .if1 .left) (c .before .before .before .seek2 .ensures) (c .before .if2 .taken))
 
 add-seek-2 : tie.Need-add-seek-2
 add-seek-2 c = search needs
@@ -61,8 +60,8 @@ seek-requires-3 : tie.Need-seek-requires-3
 seek-requires-3 c κs = search needs
 
 returns-3 : tie.Need-returns-3
-unfolding typingLine
-returns-3 c = let one = passed-next 9 (c .before .before .before .before .before .before .before .before .before .before .args .line .now) [] 0 (c .before .before .before .before .before .before .before .seek .result) (passed-none 9 _) (c .before .before .before .before .before .before .before .seek .ensures) (omega (arith, c .before .before .before .before .before .before .before .seek .ensures, c .before .before .before .before .before .if1 .left)) in let two = passed-next 9 (c .before .before .before .before .before .before .before .before .before .before .args .line .now) _ (c .before .before .before .before .before .before .before .seek .result + 1) (c .before .before .before .before .seek2 .result) (one) (c .before .before .before .before .seek2 .ensures) (omega (arith, c .before .before .before .before .seek2 .ensures, c .before .before .if2 .left)) in other-judged _ _ ∙ ap (judged _ _) (line-three _ (passed-last 9 (c .before .before .before .before .before .before .before .before .before .before .args .line .now) _ (c .before .before .before .before .seek2 .result + 1) (c .before .seek3 .result) (two) (c .before .seek3 .ensures) (c .if3 .taken)))
+unfolding lineOf
+returns-3 c = other-judged _ _ ∙ by-fields _ _ _ (three-fields (c .before .before .before .before .before .before .before .seek .ensures) (c .before .before .before .before .before .if1 .left) (c .before .before .before .before .seek2 .ensures) (c .before .before .if2 .left) (c .before .seek3 .ensures) (c .if3 .taken))
 
 add-seek-3 : tie.Need-add-seek-3
 add-seek-3 c = search needs
@@ -71,8 +70,8 @@ seek-requires-4 : tie.Need-seek-requires-4
 seek-requires-4 c κs = search needs
 
 returns-4 : tie.Need-returns-4
-unfolding typingLine
-returns-4 c = let one = passed-next 9 (c .before .before .before .before .before .before .before .before .before .before .before .before .args .line .now) [] 0 (c .before .before .before .before .before .before .before .before .before .seek .result) (passed-none 9 _) (c .before .before .before .before .before .before .before .before .before .seek .ensures) (omega (arith, c .before .before .before .before .before .before .before .before .before .seek .ensures, c .before .before .before .before .before .before .before .if1 .left)) in let two = passed-next 9 (c .before .before .before .before .before .before .before .before .before .before .before .before .args .line .now) _ (c .before .before .before .before .before .before .before .before .before .seek .result + 1) (c .before .before .before .before .before .before .seek2 .result) (one) (c .before .before .before .before .before .before .seek2 .ensures) (omega (arith, c .before .before .before .before .before .before .seek2 .ensures, c .before .before .before .before .if2 .left)) in let three = passed-next 9 (c .before .before .before .before .before .before .before .before .before .before .before .before .args .line .now) _ (c .before .before .before .before .before .before .seek2 .result + 1) (c .before .before .before .seek3 .result) (two) (c .before .before .before .seek3 .ensures) (omega (arith, c .before .before .before .seek3 .ensures, c .before .before .if3 .left)) in let four = passed-next 9 (c .before .before .before .before .before .before .before .before .before .before .before .before .args .line .now) _ (c .before .before .before .seek3 .result + 1) (c .before .seek4 .result) (three) (c .before .seek4 .ensures) (omega (arith, c .before .seek4 .ensures, c .if4 .taken)) in other-judged _ _ ∙ ap (judged _ _) (line-more _ _ (four .pieces))
+unfolding lineOf
+returns-4 c = other-judged _ _ ∙ by-fields _ _ _ (more-fields (c .before .before .before .before .before .before .before .before .before .seek .ensures) (c .before .before .before .before .before .before .before .if1 .left) (c .before .before .before .before .before .before .seek2 .ensures) (c .before .before .before .before .if2 .left) (c .before .before .before .seek3 .ensures) (c .before .before .if3 .left) (c .before .seek4 .ensures) (c .if4 .taken) .2)
 
 add-row-line : tie.Need-add-row-line
 add-row-line c = search needs
@@ -102,8 +101,8 @@ row-line-requires : tie.Need-row-line-requires
 row-line-requires c κs = (part-short (c .before .before .before .before .before .before .before .before .before .before .before .before .before .before .args .line .now) (c .before .before .before .before .before .before .before .before .seek2 .result + 1) (c .before .before .before .before .before .seek3 .result) (c .before .before .before .before .before .before .before .before .before .before .before .before .before .before .pre .0), part-short (c .before .before .before .before .before .before .before .before .before .before .before .before .before .before .args .line .now) (c .before .before .before .before .before .seek3 .result + 1) (c .before .before .before .seek4 .result) (c .before .before .before .before .before .before .before .before .before .before .before .before .before .before .pre .0), c .before .before .before .before .before .before .before .before .before .before .before .before .before .before .pre .1, c .before .before .before .before .before .before .before .before .before .before .before .before .before .before .pre .2)
 
 returns-5 : tie.Need-returns-5
-unfolding typingLine
-returns-5 c = let one = passed-next 9 (c .before .before .before .before .before .before .before .before .before .before .before .before .before .before .before .args .line .now) [] 0 (c .before .before .before .before .before .before .before .before .before .before .before .before .seek .result) (passed-none 9 _) (c .before .before .before .before .before .before .before .before .before .before .before .before .seek .ensures) (omega (arith, c .before .before .before .before .before .before .before .before .before .before .before .before .seek .ensures, c .before .before .before .before .before .before .before .before .before .before .if1 .left)) in let two = passed-next 9 (c .before .before .before .before .before .before .before .before .before .before .before .before .before .before .before .args .line .now) _ (c .before .before .before .before .before .before .before .before .before .before .before .before .seek .result + 1) (c .before .before .before .before .before .before .before .before .before .seek2 .result) (one) (c .before .before .before .before .before .before .before .before .before .seek2 .ensures) (omega (arith, c .before .before .before .before .before .before .before .before .before .seek2 .ensures, c .before .before .before .before .before .before .before .if2 .left)) in let three = passed-next 9 (c .before .before .before .before .before .before .before .before .before .before .before .before .before .before .before .args .line .now) _ (c .before .before .before .before .before .before .before .before .before .seek2 .result + 1) (c .before .before .before .before .before .before .seek3 .result) (two) (c .before .before .before .before .before .before .seek3 .ensures) (omega (arith, c .before .before .before .before .before .before .seek3 .ensures, c .before .before .before .before .before .if3 .left)) in c .row-line .ensures ∙ ap (judged _ _) (line-four _ (passed-last 9 (c .before .before .before .before .before .before .before .before .before .before .before .before .before .before .before .args .line .now) _ (c .before .before .before .before .before .before .seek3 .result + 1) (c .before .before .before .before .seek4 .result) (three) (c .before .before .before .before .seek4 .ensures) (omega (arith, c .before .before .before .before .seek4 .ensures, c .before .before .before .if4 .left))))
+unfolding lineOf
+returns-5 c = c .row-line .ensures ∙ by-fields _ _ _ (four-fields (c .before .before .before .before .before .before .before .before .before .before .before .before .seek .ensures) (c .before .before .before .before .before .before .before .before .before .before .if1 .left) (c .before .before .before .before .before .before .before .before .before .seek2 .ensures) (c .before .before .before .before .before .before .before .if2 .left) (c .before .before .before .before .before .before .seek3 .ensures) (c .before .before .before .before .before .if3 .left) (c .before .before .before .before .seek4 .ensures) (c .before .before .before .if4 .left))
 
 pub read-line-spec : {M : Type 1} → statement M
 read-line-spec =

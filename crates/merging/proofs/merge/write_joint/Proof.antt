@@ -32,7 +32,7 @@ slice-aggregate-write-fitting c = sym (simp length-map at (c .before .before .be
 write-fitting-requires : tie.Need-write-fitting-requires
 write-fitting-requires c κs =
     let few = c .before .before .before .before .before .before .before .before .before .before .before .before .before .pre .0 .roles in
-    (omega (arith, slice-aggregate-write-fitting c, few), few)
+    (omega (arith, slice-aggregate-write-fitting c, few), omega (arith, few))
 
 same-length : tie.Need-same-length
 same-length c = search needs

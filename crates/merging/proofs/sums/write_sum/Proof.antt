@@ -11,7 +11,7 @@ slice-aggregate-write-fitting c = search needs
 write-fitting-requires : tie.Need-write-fitting-requires
 write-fitting-requires c κs =
     let few = c .before .before .before .before .pre .roles in
-    (omega (arith, slice-aggregate-write-fitting c, few), few)
+    (omega (arith, slice-aggregate-write-fitting c, few), omega (arith, few))
 
 same-length : tie.Need-same-length
 same-length c = search needs

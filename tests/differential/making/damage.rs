@@ -1,7 +1,8 @@
 //! Damage: one change to a text, of a byte, a field, a name, a line or its length.
 
 use crate::chance::Chance;
-use crate::making::name_of;
+use crate::making::names::of_length;
+use crate::texts::TEXT_LIMIT;
 
 /// Bytes that mean something somewhere, and some that never do.
 const BYTES: &[u8] = b"\n\t,-_ 019aLHz.\r\0\x01\x7f\x80\xff";
@@ -16,8 +17,28 @@ const NUMBERS: [&[u8]; 16] = [
     b"-1", b"1a",
 ];
 
-/// Parts of a text from the start of each to its end, parted by a byte.
-fn parts(text: &[u8], parting: impl Fn(u8) -> bool) -> Vec<(usize, usize)> {
+/// How many lines, fields or names, and bytes the rules and goals of a policy mostly have.
+const LAST_LINES: usize = 10;
+const LAST_FIELDS: usize = 40;
+const LAST_BYTES: usize = 200;
+
+pub fn damage(chance: &mut Chance, text: &mut Vec<u8>) {
+    match chance.below(18) {
+        0..=2 => change_byte(chance, text),
+        3..=5 => change_field(chance, text),
+        6 => change_number(chance, text),
+        7..=9 => change_name(chance, text),
+        10..=12 => change_lines(chance, text),
+        13..=15 => change_length(chance, text),
+        _ => repeat_line(chance, text),
+    }
+}
+
+/// Where a part of a text starts and ends.
+type Part = (usize, usize);
+
+/// The parts of a text that certain bytes part.
+fn parts(text: &[u8], parting: impl Fn(u8) -> bool) -> Vec<Part> {
     let mut parts = Vec::new();
     let mut start = 0;
     for (place, &byte) in text.iter().enumerate() {
@@ -30,24 +51,41 @@ fn parts(text: &[u8], parting: impl Fn(u8) -> bool) -> Vec<(usize, usize)> {
     parts
 }
 
-fn replace(text: &mut Vec<u8>, part: (usize, usize), with: &[u8]) {
-    text.splice(part.0..part.1, with.iter().copied());
-}
-
-fn lines(text: &[u8]) -> Vec<(usize, usize)> {
+fn lines(text: &[u8]) -> Vec<Part> {
     parts(text, |byte| byte == b'\n')
 }
 
-fn fields(text: &[u8]) -> Vec<(usize, usize)> {
+fn fields(text: &[u8]) -> Vec<Part> {
     parts(text, |byte| byte == b'\n' || byte == b'\t')
 }
 
-fn names(text: &[u8]) -> Vec<(usize, usize)> {
+fn names(text: &[u8]) -> Vec<Part> {
     parts(text, |byte| byte == b'\n' || byte == b'\t' || byte == b',')
 }
 
+fn bytes(text: &[u8], part: Part) -> Vec<u8> {
+    text[part.0..part.1].to_vec()
+}
+
+fn replace(text: &mut Vec<u8>, part: Part, with: &[u8]) {
+    text.splice(part.0..part.1, with.iter().copied());
+}
+
+fn insert(text: &mut Vec<u8>, place: usize, more: &[u8]) {
+    replace(text, (place, place), more);
+}
+
+/// One of so many places, every other time one of the last: of a policy with many roles these are
+/// the few that do not only declare a role.
+fn place(chance: &mut Chance, count: usize, last: usize) -> usize {
+    if chance.one_in(2) {
+        return count - 1 - chance.below(last.min(count));
+    }
+    chance.below(count)
+}
+
 fn change_byte(chance: &mut Chance, text: &mut Vec<u8>) {
-    let place = chance.below(text.len() + 1);
+    let place = place(chance, text.len() + 1, LAST_BYTES);
     if place == text.len() {
         text.push(chance.pick(BYTES));
         return;
@@ -66,23 +104,19 @@ fn change_byte(chance: &mut Chance, text: &mut Vec<u8>) {
 
 fn change_field(chance: &mut Chance, text: &mut Vec<u8>) {
     let fields = fields(text);
-    let part = chance.pick(&fields);
+    let part = fields[place(chance, fields.len(), LAST_FIELDS)];
     match chance.below(6) {
         0 => replace(text, part, b""),
         1 => {
-            let other = chance.pick(&fields);
-            let field = text[other.0..other.1].to_vec();
-            replace(text, part, &field);
+            let other = bytes(text, chance.pick(&fields));
+            replace(text, part, &other);
         }
         // A field of its own, before or behind.
-        2 => replace(text, (part.1, part.1), b"\t-"),
-        3 => replace(text, (part.0, part.0), b"\t"),
+        2 => insert(text, part.1, b"\t-"),
+        3 => insert(text, part.0, b"\t"),
         // One field with its tab less.
         4 => replace(text, (part.0, (part.1 + 1).min(text.len())), b""),
-        _ => {
-            let field = chance.pick(&FIELDS);
-            replace(text, part, field);
-        }
+        _ => replace(text, part, chance.pick(&FIELDS)),
     }
 }
 
@@ -97,62 +131,50 @@ fn change_number(chance: &mut Chance, text: &mut Vec<u8>) {
     }
     let part = chance.pick(&numbers);
     match chance.below(5) {
-        0 => replace(text, (part.0, part.0), b"0"),
-        1 => replace(text, (part.0, part.0), b"00"),
-        2 => replace(text, (part.1, part.1), b"0"),
-        _ => {
-            let number = chance.pick(&NUMBERS);
-            replace(text, part, number);
-        }
+        0 => insert(text, part.0, b"0"),
+        1 => insert(text, part.0, b"00"),
+        2 => insert(text, part.1, b"0"),
+        _ => replace(text, part, chance.pick(&NUMBERS)),
     }
 }
 
-/// Puts a name of a certain length, or another name of the text, in the place of a name.
+/// Puts a name of a certain length, or another name of the text, in the place of a name or behind
+/// it.
 fn change_name(chance: &mut Chance, text: &mut Vec<u8>) {
     let names = names(text);
-    let part = chance.pick(&names);
+    let part = names[place(chance, names.len(), LAST_FIELDS)];
+    let other = bytes(text, chance.pick(&names));
     match chance.below(4) {
-        0 => {
-            let other = chance.pick(&names);
-            let name = text[other.0..other.1].to_vec();
-            replace(text, part, &name);
-        }
-        1 => {
-            let other = chance.pick(&names);
-            let mut more = b",".to_vec();
-            more.extend_from_slice(&text[other.0..other.1]);
-            replace(text, (part.1, part.1), &more);
-        }
+        0 => replace(text, part, &other),
+        1 => insert(text, part.1, &[b",", &other[..]].concat()),
         _ => {
-            let length = chance.pick(&[1, 2, 31, 32, 32, 33, 33, 34, 64]);
-            let name = name_of(chance, length);
-            replace(text, part, &name);
+            let length = chance.pick(&[1, 2, 4, 5, 31, 32, 32, 33, 33, 34, 64]);
+            replace(text, part, &of_length(chance, length));
         }
     }
 }
 
+/// A line goes, comes twice, is followed or headed by a blank one, or changes places.
 fn change_lines(chance: &mut Chance, text: &mut Vec<u8>) {
     let lines = lines(text);
-    let part = chance.pick(&lines);
+    let part = lines[place(chance, lines.len(), LAST_LINES)];
     let whole = (part.0, (part.1 + 1).min(text.len()));
-    let line = text[whole.0..whole.1].to_vec();
-    let other = chance.pick(&lines);
+    let other = lines[place(chance, lines.len(), LAST_LINES)];
     match chance.below(5) {
         0 => replace(text, whole, b""),
-        1 => replace(text, (whole.0, whole.0), &line),
-        2 => replace(text, (part.1, part.1), b"\n"),
+        1 => insert(text, whole.0, &bytes(text, whole)),
+        2 => insert(text, part.1, b"\n"),
         // The line moves to where another begins.
         3 if other.0 >= whole.1 => {
-            replace(text, (other.0, other.0), &line);
+            insert(text, other.0, &bytes(text, whole));
             replace(text, whole, b"");
         }
         4 if other.0 >= whole.1 => {
-            let other_line = text[other.0..other.1].to_vec();
-            let line = text[part.0..part.1].to_vec();
+            let (line, other_line) = (bytes(text, part), bytes(text, other));
             replace(text, other, &line);
             replace(text, part, &other_line);
         }
-        _ => replace(text, (part.0, part.0), b"\n"),
+        _ => insert(text, part.0, b"\n"),
     }
 }
 
@@ -162,16 +184,16 @@ fn repeat_line(chance: &mut Chance, text: &mut Vec<u8>) {
     let place = if chance.one_in(2) && lines.len() > 2 {
         lines.len() - 3
     } else {
-        chance.below(lines.len())
+        place(chance, lines.len(), LAST_LINES)
     };
-    let mut line = text[lines[place].0..lines[place].1].to_vec();
+    let mut line = bytes(text, lines[place]);
     line.push(b'\n');
     let count = chance.pick(&[30, 31, 32, 33, 63, 64, 65, 127, 128, 129, 255, 256, 257]);
-    replace(text, (lines[place].0, lines[place].0), &line.repeat(count));
+    insert(text, lines[place].0, &line.repeat(count));
 }
 
 fn change_length(chance: &mut Chance, text: &mut Vec<u8>) {
-    match chance.below(10) {
+    match chance.below(11) {
         0 => {
             let length = chance.below(text.len() + 1);
             text.truncate(length);
@@ -192,23 +214,11 @@ fn change_length(chance: &mut Chance, text: &mut Vec<u8>) {
             let more: &[u8] = chance.pick(&[&b"end\n"[..], b"\n", b"end", b"role\ta\n"]);
             text.extend_from_slice(more);
         }
-        6..=8 => {
-            let length = 32_769 + chance.pick(&[0, 0, 1, 100]);
+        6..=9 => {
+            let length = TEXT_LIMIT + chance.pick(&[1, 1, 2, 101]);
             text.resize(length.max(text.len()), chance.pick(b"\na"));
         }
         // As long as may be: what is behind `end` is then read.
-        _ => text.resize(32_768.max(text.len()), chance.pick(b"\na")),
-    }
-}
-
-pub fn damage(chance: &mut Chance, text: &mut Vec<u8>) {
-    match chance.below(17) {
-        0..=2 => change_byte(chance, text),
-        3..=5 => change_field(chance, text),
-        6 => change_number(chance, text),
-        7..=9 => change_name(chance, text),
-        10..=12 => change_lines(chance, text),
-        13..=14 => change_length(chance, text),
-        _ => repeat_line(chance, text),
+        _ => text.resize(TEXT_LIMIT.max(text.len()), chance.pick(b"\na")),
     }
 }

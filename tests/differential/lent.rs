@@ -1,0 +1,88 @@
+//! What is lent to the library: arrays and buffers that it writes into, and texts that it reads. On
+//! both sides of each stands something that is not lent.
+
+use std::hint::black_box;
+use std::ops::Range;
+
+use crate::chance::Chance;
+
+/// How many numbers of an array, or bytes of a buffer, stand before and behind the part that is
+/// lent.
+const AROUND: usize = 4;
+
+/// An array or a buffer.
+pub struct Lent<T> {
+    /// With what stands around the lent part.
+    pub all: Vec<T>,
+    as_lent: Vec<T>,
+}
+
+impl<T: Copy + From<u8>> Lent<T> {
+    pub fn new(chance: &mut Chance, length: usize) -> Lent<T> {
+        let mut byte = chance.number() as u8;
+        let mut all = Vec::with_capacity(length + 2 * AROUND);
+        for _ in 0..length + 2 * AROUND {
+            byte = byte.wrapping_mul(5).wrapping_add(87);
+            all.push(T::from(byte));
+        }
+        Lent { as_lent: all.clone(), all: all }
+    }
+
+    pub fn part(&mut self) -> &mut [T] {
+        let end = self.all.len() - AROUND;
+        &mut self.all[AROUND..end]
+    }
+
+    /// What the whole has to be when this stands at the start of the lent part.
+    pub fn with(&self, start: &[T]) -> Vec<T> {
+        let mut wanted = self.as_lent.clone();
+        wanted[AROUND..AROUND + start.len()].copy_from_slice(start);
+        wanted
+    }
+}
+
+pub fn shown_array(all: &[u64]) -> String {
+    let end = all.len() - AROUND;
+    format!("array {:?}, around it {:?} and {:?}\n", &all[AROUND..end], &all[..AROUND], &all[end..])
+}
+
+pub fn shown_buffer(all: &[u8]) -> String {
+    let end = all.len() - AROUND;
+    format!(
+        "buffer \"{}\", around it \"{}\" and \"{}\"\n",
+        all[AROUND..end].escape_ascii(),
+        all[..AROUND].escape_ascii(),
+        all[end..].escape_ascii()
+    )
+}
+
+/// What stands before a text and behind it: a byte of it that the library looked at would make
+/// another text.
+const BEFORE: [&[u8]; 5] = [b"a", b"\n", b"\t", b"arbac\t1\n", b"end\n"];
+const BEHIND: [&[u8]; 7] = [b"\n", b"\nend\n", b"end\n", b"a", b"\t", b",a", b"1"];
+
+pub struct LentText {
+    pub name: &'static str,
+    /// With what stands around the lent part.
+    all: Vec<u8>,
+    as_lent: Vec<u8>,
+    part: Range<usize>,
+}
+
+impl LentText {
+    pub fn new(chance: &mut Chance, name: &'static str, text: &[u8]) -> LentText {
+        let start = chance.pick(&BEFORE);
+        let all = [start, text, chance.pick(&BEHIND)].concat();
+        let part = start.len()..start.len() + text.len();
+        LentText { name: name, as_lent: all.clone(), all: all, part: part }
+    }
+
+    pub fn part(&self) -> &[u8] {
+        &self.all[self.part.clone()]
+    }
+
+    /// Whether it is as it was. The compiler would take that for granted without the black box.
+    pub fn is_kept(&self) -> bool {
+        *black_box(&self.all) == self.as_lent
+    }
+}
