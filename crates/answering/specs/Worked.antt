@@ -14,7 +14,7 @@ use Rattle.text.specs.Forms.{bytes, isNumber, decimal, numberOf}
 use Rattle.text.specs.Names.{sameName}
 use Rattle.reading.specs.Policy.{policyOf, padded}
 use Rattle.reading.specs.Worked.{reading}
-use Rattle.evidence.specs.Turns.{turnOf}
+use Rattle.fields.specs.Turns.{turnOf}
 use Rattle.evidence.specs.TypingLines as typing
 use Rattle.evidence.specs.TypingText as typings
 use Rattle.evidence.specs.TraceLines as trace

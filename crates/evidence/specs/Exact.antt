@@ -11,7 +11,7 @@ use Rattle.reading.specs.Texts.{Judged, goes, ends, bad, Reading, read, refused
 use Rattle.reading.specs.Exact.{Unbroken, Above, LineAt, ReadAs, Refusal, refusal-exact, read-exact}
 use Rattle.evidence.specs.declared.typing.TypingEntry.{TypingEntry}
 use Rattle.evidence.specs.declared.trace.TraceEntry.{TraceEntry}
-use Rattle.evidence.specs.Turns.{turnOf}
+use Rattle.fields.specs.Turns.{turnOf}
 use Rattle.evidence.specs.TypingLines as typing
 use Rattle.evidence.specs.TypingText.{Typed, untyped, readTyping}
 use Rattle.evidence.specs.TypingText as typings

@@ -1,6 +1,4 @@
 -- What a typing text and a trace text are read into, and where the bad line of two texts stands.
-pub mod Turns
-pub mod Cutting
 pub mod TypingLines
 pub mod TypingText
 pub mod TypingReached

@@ -9,10 +9,10 @@ use Rattle.text.specs.declared.Name.{Name}
 use Rattle.text.specs.Forms.{bytes, isName, numberOf}
 use Rattle.text.specs.Pieces.{split, sameBytes}
 use Rattle.steps.specs.declared.Step.{Step}
-use Rattle.lines.specs.Fields.{placed, isDeclared}
+use Rattle.fields.specs.Fields.{placed, isDeclared}
 use Rattle.evidence.specs.declared.trace.TraceEntry.{TraceEntry}
 use Rattle.evidence.specs.declared.trace.TraceLine.{TraceLine}
-use Rattle.evidence.specs.Turns.{turnOf}
+use Rattle.fields.specs.Turns.{turnOf}
 
 -- A line by its fields.
 pub data Line : Type 0 where

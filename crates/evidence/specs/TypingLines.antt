@@ -8,11 +8,11 @@ use lib.ListN.{length}
 use Rattle.text.specs.declared.Name.{Name}
 use Rattle.text.specs.Forms.{bytes, isName, isSet, isLabel}
 use Rattle.text.specs.Pieces.{split, sameBytes}
-use Rattle.lines.specs.declared.fields.SetRead.{SetRead}
-use Rattle.lines.specs.Fields.{placed, allDeclared, rolesOf, faultOf, setRead, worse, set-fault, roles-read}
+use Rattle.fields.specs.declared.SetRead.{SetRead}
+use Rattle.fields.specs.Fields.{placed, allDeclared, rolesOf, faultOf, setRead, worse, set-fault, roles-read}
 use Rattle.evidence.specs.declared.typing.TypingEntry.{TypingEntry}
 use Rattle.evidence.specs.declared.typing.TypingLine.{TypingLine}
-use Rattle.evidence.specs.Turns.{turnOf, by-fault}
+use Rattle.fields.specs.Turns.{turnOf, by-fault}
 
 -- A line by its fields.
 pub data Line : Type 0 where

@@ -21,7 +21,7 @@ use Rattle.reading.specs.Reached.{store-next}
 use Rattle.evidence.specs.declared.typing.TypingEntry.{TypingEntry}
 use Rattle.evidence.specs.declared.typing.TypingLine.{TypingLine}
 use Rattle.evidence.specs.declared.typing.TypingRead.{TypingRead}
-use Rattle.evidence.specs.Turns.{turnOf}
+use Rattle.fields.specs.Turns.{turnOf}
 use Rattle.evidence.specs.TypingLines.{Line, header, row, end, other, lineOf, wellFormed, named, entry, answerTo, judged, typingLine}
 use Rattle.evidence.specs.TypingText.{Typed, untyped, added, answered, judgeLine, readTyping, tableOf, refusedTyping, answerOf, typingRead}
 

@@ -9,7 +9,7 @@ use Rattle.text.specs.Forms.{bytes}
 use Rattle.text.specs.Names.{packed}
 use Rattle.reading.specs.Texts.{Reading, read, refused}
 use Rattle.reading.specs.Worked.{reading}
-use Rattle.evidence.specs.Turns.{turnOf}
+use Rattle.fields.specs.Turns.{turnOf}
 use Rattle.evidence.specs.TypingLines.{oneField, twoFields, lineOf, wellFormed, named, entry, answerTo, judged, typingLine}
 use Rattle.evidence.specs.TypingText.{Typed, untyped, added, answered, judgeLine, readTyping}
 

@@ -8,7 +8,7 @@ ghost use Rattle.text.specs.declared.Name.{Name};
 ghost use Rattle.text.specs.Names.{rows};
 ghost use Rattle.evidence.specs.TraceLines.{oneField, twoFields, fourFields, answerTo, judged, traceLine, stepOf};
 ghost use Rattle.evidence.specs.TraceText.{codeOf, refusedTrace, traceRead};
-use crate::turns::turn;
+use fields::turns::turn;
 use lines::Counts;
 use steps::Step;
 

@@ -7,9 +7,9 @@ ghost use Rattle.text.specs.declared.Name.{Name};
 ghost use Rattle.text.specs.Names.{rows};
 ghost use Rattle.evidence.specs.TypingLines.{Line, oneField, twoFields, answerTo, judged, typingLine};
 ghost use Rattle.evidence.specs.TypingText.{untyped, tableOf, codeOf, refusedTyping, typingRead};
-use crate::turns::turn;
-use lines::fields::read_set;
-use lines::fields::worse;
+use fields::turns::turn;
+use fields::read_set;
+use fields::worse;
 use model::Typing;
 use roles::RoleSet;
 

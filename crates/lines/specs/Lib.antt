@@ -1,4 +1,2 @@
--- Names and sets against a table, and what a line of a policy says.
-pub mod Fields
-pub mod Sets
+-- What a line of a policy says, and what is wrong with it.
 pub mod Lines

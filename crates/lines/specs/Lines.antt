@@ -12,12 +12,12 @@ use Rattle.text.specs.declared.Name.{Name}
 use Rattle.text.specs.Forms.{bytes, isName, isSet, isLabel}
 use Rattle.text.specs.Names.{packed}
 use Rattle.text.specs.Pieces.{split, sameBytes, split-piece}
-use Rattle.lines.specs.declared.fields.NameRead.{NameRead}
-use Rattle.lines.specs.declared.fields.SetRead.{SetRead}
+use Rattle.fields.specs.declared.NameRead.{NameRead}
+use Rattle.fields.specs.declared.SetRead.{SetRead}
 use Rattle.lines.specs.declared.Counts.{Counts}
 use Rattle.lines.specs.declared.Entry.{Entry}
 use Rattle.lines.specs.declared.PolicyLine.{PolicyLine}
-use Rattle.lines.specs.Fields.{placed, isDeclared, allDeclared, rolesOf, faultOf, nameRead, setRead, worse, at-place, roles-read, set-fault, name-fault}
+use Rattle.fields.specs.Fields.{placed, isDeclared, allDeclared, rolesOf, faultOf, nameRead, setRead, worse, at-place, roles-read, set-fault, name-fault}
 
 -- A line by its first field and the number of its fields.
 pub data Line : Type 0 where

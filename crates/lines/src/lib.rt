@@ -6,12 +6,9 @@ ghost use mathlib.Core.List.{List};
 ghost use Rattle.text.specs.declared.Name.{Name};
 ghost use Rattle.text.specs.Names.{rows};
 ghost use Rattle.lines.specs.Lines.{Line, oneField, twoFields, threeFields, inOrder, inTurn, judged, policyLine};
-
-pub mod fields;
-
-use crate::fields::read_name;
-use crate::fields::read_set;
-use crate::fields::worse;
+use fields::read_name;
+use fields::read_set;
+use fields::worse;
 use model::Assign;
 use model::Revoke;
 use roles::RoleSet;

@@ -10,7 +10,7 @@ use Rattle.text.specs.Forms.{bytes, every, between, nameByte, isName, namesOf, 
 use Rattle.text.specs.Names.{value, packed, sameName, placeOf}
 use Rattle.text.specs.Pieces.{onto, split, sameBytes, among, repeated}
 use Rattle.reading.specs.Texts.{Reading, read, refused, closing, onward, readLines, readText}
-use Rattle.lines.specs.Fields.{placed, isDeclared, allDeclared, rolesFrom, rolesOf}
+use Rattle.fields.specs.Fields.{placed, isDeclared, allDeclared, rolesFrom, rolesOf}
 use Rattle.lines.specs.Lines.{oneField, twoFields, threeFields, fiveFields, lineOf, inOrder, wellFormed, withinLimit, declared, entry, inTurn, judged, policyLine}
 use Rattle.reading.specs.Policy.{Said, nothing, countsOf, added, entered, answered, judgeLine, readPolicy}
 

@@ -14,11 +14,11 @@ use Rattle.text.specs.declared.Name.{Name}
 use Rattle.text.specs.Forms.{namesOf}
 use Rattle.text.specs.Pieces.{split}
 use Rattle.reading.specs.Texts.{Judged, goes, ends, bad, read}
-use Rattle.lines.specs.Fields.{placed, isDeclared, allDeclared, rolesOf}
+use Rattle.fields.specs.Fields.{placed, isDeclared, allDeclared, rolesOf}
 use Rattle.reading.specs.Kept.{text-keeps}
 use Rattle.reading.specs.Exact.{read-exact}
 use Rattle.evidence.specs.declared.typing.TypingEntry.{TypingEntry}
-use Rattle.evidence.specs.Turns.{turnOf}
+use Rattle.fields.specs.Turns.{turnOf}
 use Rattle.evidence.specs.TypingLines.{Line, header, row, end, other, lineOf, wellFormed, named, entry, answerTo, judged, typingLine}
 use Rattle.evidence.specs.TypingText.{Typed, untyped, added, answered, judgeLine, readTyping}
 use Rattle.verdicts.specs.Sizes.{roles-sized, each-more}

@@ -16,7 +16,7 @@ use Rattle.lines.specs.declared.Counts.{Counts}
 use Rattle.lines.specs.declared.Entry.{Entry}
 use Rattle.lines.specs.declared.PolicyLine.{PolicyLine}
 use Rattle.reading.specs.Texts.{read}
-use Rattle.lines.specs.Fields.{placed, isDeclared}
+use Rattle.fields.specs.Fields.{placed, isDeclared}
 use Rattle.lines.specs.Lines.{Line, header, role, user, has, assign, revoke, goal, end, other, lineOf, inOrder, wellFormed, withinLimit, declared, entry, inTurn, judged, policyLine}
 use Rattle.reading.specs.Policy.{Said, nothing, countsOf, added, judgeLine, readPolicy}
 use Rattle.reading.specs.Kept.{text-keeps, line-keeps}

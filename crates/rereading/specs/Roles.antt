@@ -9,7 +9,7 @@ use Rattle.roles.specs.Sets.{emptySet, withOf}
 use Rattle.roles.specs.Members.{_∈_, with-cases, with-old, empty-none}
 use Rattle.text.specs.declared.Name.{Name}
 use Rattle.text.specs.Forms.{every}
-use Rattle.lines.specs.Fields.{placed, rolesFrom}
+use Rattle.fields.specs.Fields.{placed, rolesFrom}
 
 module _ (names : List Name) where
   -- A role that is in the set stays in it.

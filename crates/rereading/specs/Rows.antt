@@ -12,12 +12,12 @@ use Rattle.text.specs.declared.Name.{Name}
 use Rattle.text.specs.Forms.{bytes, every, between, nameByte, isName, isLabel}
 use Rattle.text.specs.Names.{placeOf}
 use Rattle.text.specs.Pieces.{split, onto, sameBytes}
-use Rattle.lines.specs.Fields.{placed}
+use Rattle.fields.specs.Fields.{placed}
 use Rattle.writing.specs.Written.{spelled}
 use Rattle.writing.specs.TypingText.{setText, labelText}
 use Rattle.evidence.specs.declared.typing.TypingEntry.{TypingEntry}
 use Rattle.evidence.specs.declared.typing.TypingLine.{TypingLine}
-use Rattle.evidence.specs.Turns.{turnOf}
+use Rattle.fields.specs.Turns.{turnOf}
 use Rattle.evidence.specs.TypingLines.{row, oneField, twoFields, lineOf, wellFormed, named, entry, answerTo, judged, typingLine}
 use Rattle.rereading.specs.Cuts.{free, cut-first, cut-last, free-join, free-name}
 use Rattle.rereading.specs.Joined.{Apart}

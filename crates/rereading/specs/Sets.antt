@@ -13,7 +13,7 @@ use Rattle.roles.specs.Members.{_∈_, Sized, with-new, same-members, below as 
 use Rattle.text.specs.declared.Name.{Name}
 use Rattle.text.specs.Forms.{every, isName, isSet, namesOf}
 use Rattle.text.specs.Pieces.{repeated}
-use Rattle.lines.specs.Fields.{placed, isDeclared, allDeclared, rolesFrom, rolesOf}
+use Rattle.fields.specs.Fields.{placed, isDeclared, allDeclared, rolesFrom, rolesOf}
 use Rattle.writing.specs.Written.{spelled}
 use Rattle.writing.specs.TypingText.{namesFrom, setText}
 use Rattle.verdicts.specs.Sizes.{roles-sized}

@@ -13,7 +13,7 @@ use Rattle.text.specs.declared.Name.{Name}
 use Rattle.text.specs.Forms.{every, isName}
 use Rattle.text.specs.Names.{packed, placeOf}
 use Rattle.text.specs.Pieces.{sameBytes, among, repeated, same-equal}
-use Rattle.lines.specs.Fields.{placed}
+use Rattle.fields.specs.Fields.{placed}
 use Rattle.steps.specs.Places.{at-listed}
 use Rattle.writing.specs.Written.{spelled}
 use Rattle.writing.specs.Spelling.{spelled-packed}

@@ -10,11 +10,11 @@ use native.Mathlib.Omega.{arith}
 use Rattle.text.specs.declared.Name.{Name}
 use Rattle.text.specs.Forms.{isName, numberOf}
 use Rattle.text.specs.Pieces.{split}
-use Rattle.lines.specs.Fields.{placed, isDeclared}
+use Rattle.fields.specs.Fields.{placed, isDeclared}
 use Rattle.steps.specs.declared.Step.{Step}
 use Rattle.evidence.specs.declared.trace.TraceEntry.{TraceEntry}
 use Rattle.evidence.specs.declared.trace.TraceLine.{TraceLine}
-use Rattle.evidence.specs.Turns.{turnOf}
+use Rattle.fields.specs.Turns.{turnOf}
 use Rattle.evidence.specs.TraceLines.{Line, header, assign, revoke, end, other, lineOf, isStep, stepNamed, wellFormed, named, entry, answerTo, judged, traceLine}
 
 -- an actor, a rule and a user below their counts

@@ -10,7 +10,7 @@ use Rattle.roles.specs.Members.{Sized, empty-sized}
 use Rattle.sheets.specs.Members.{union-sized, single-sized}
 use Rattle.text.specs.declared.Name.{Name}
 use Rattle.text.specs.Forms.{namesOf}
-use Rattle.lines.specs.Fields.{placed, rolesFrom, rolesOf}
+use Rattle.fields.specs.Fields.{placed, rolesFrom, rolesOf}
 
 -- a set with one role more
 pub with-sized : {s : RoleSet} (role : ℕ) → Sized s → Sized (withOf s role)

@@ -18,13 +18,13 @@ use Rattle.text.specs.declared.Name.{Name}
 use Rattle.text.specs.Forms.{bytes, isName, isSet, isLabel}
 use Rattle.text.specs.Pieces.{split, sameBytes}
 use Rattle.reading.specs.Texts.{goes, ends, bad, read}
-use Rattle.lines.specs.Fields.{rolesOf}
+use Rattle.fields.specs.Fields.{rolesOf}
 use Rattle.reading.specs.Policy.{padded}
 use Rattle.reading.specs.Kept.{text-keeps}
 use Rattle.steps.specs.Places.{at-listed}
 use Rattle.evidence.specs.declared.typing.TypingEntry.{TypingEntry}
 use Rattle.evidence.specs.declared.typing.TypingLine.{TypingLine}
-use Rattle.evidence.specs.Turns.{turnOf}
+use Rattle.fields.specs.Turns.{turnOf}
 use Rattle.evidence.specs.TypingLines.{Line, header, row, end, other, lineOf, wellFormed, named, entry, answerTo, judged, typingLine}
 use Rattle.evidence.specs.TypingText.{Typed, untyped, added, answered, judgeLine, readTyping, tableOf}
 use Rattle.evidence.specs.TypingReached.{Rowed}

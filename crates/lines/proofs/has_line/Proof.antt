@@ -2,8 +2,8 @@
 use borrow.Author.Needs.{needs}
 use mathlib.Core.Bool.{true, _&&_}
 use mathlib.Core.Path.{refl}
-use Rattle.lines.specs.Fields.{nameRead, faultOf, placed, declared-test, new-test, worse}
-use Rattle.lines.specs.Fields.{nameRead, isDeclared, worse}
+use Rattle.fields.specs.Fields.{nameRead, faultOf, placed, declared-test, new-test, worse}
+use Rattle.fields.specs.Fields.{nameRead, isDeclared, worse}
 use Rattle.lines.specs.Lines.{has-judged}
 use Rattle.lines.specs.Lines.{inOrder, inTurn, wellFormed, withinLimit, declared, entry, judged, by-fault}
 use Rattle.lines.specs.Lines.{inOrder, wellFormed, withinLimit, declared, entry, judged, by-fault}

@@ -1,7 +1,7 @@
 -- `read_line` goes from tab to tab: the fields passed and the pieces of what is left are those of the line.
 use borrow.Author.Needs.{needs}
 use mathlib.Core.Path.{_∙_}
-use Rattle.evidence.specs.Cutting.{one-field, two-fields, three-fields, four-fields, more-fields}
+use Rattle.fields.specs.Cutting.{one-field, two-fields, three-fields, four-fields, more-fields}
 use Rattle.evidence.specs.TraceLines.{lineOf, other-judged, by-fields}
 use Rattle.evidence.proofs.trace.read_line.Statement.{statement}
 use Rattle.evidence.proofs.trace.read_line.Tie as tie

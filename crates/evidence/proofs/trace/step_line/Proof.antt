@@ -2,7 +2,7 @@
 use borrow.Author.Needs.{needs}
 use mathlib.Core.Path.{ap, _∙_}
 use Rattle.evidence.specs.TraceLines.{step-judged}
-use Rattle.lines.specs.Fields.{placed}
+use Rattle.fields.specs.Fields.{placed}
 use Rattle.text.specs.Names.{placeOf, rows, rows-length}
 use Rattle.evidence.proofs.trace.step_line.Statement.{statement}
 use Rattle.evidence.proofs.trace.step_line.Tie as tie

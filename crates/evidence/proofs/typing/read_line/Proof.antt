@@ -2,7 +2,7 @@
 use Prim.Native.Nat.{_+_}
 use borrow.Author.Needs.{needs}
 use mathlib.Core.Path.{_∙_}
-use Rattle.evidence.specs.Cutting.{one-field, two-fields, three-fields, four-fields, more-fields}
+use Rattle.fields.specs.Cutting.{one-field, two-fields, three-fields, four-fields, more-fields}
 use Rattle.evidence.specs.TypingLines.{lineOf, other-judged, by-fields}
 use Rattle.text.specs.Names.{rows, rows-length}
 use Rattle.text.specs.Pieces.{part-short}

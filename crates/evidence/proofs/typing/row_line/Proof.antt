@@ -3,7 +3,7 @@ use borrow.Author.Needs.{needs}
 use mathlib.Core.Path.{ap, _∙_}
 use native.Mathlib.Omega.{arith}
 use Rattle.evidence.specs.TypingLines.{row-judged}
-use Rattle.lines.specs.Fields.{placed}
+use Rattle.fields.specs.Fields.{placed}
 use Rattle.text.specs.Names.{placeOf, rows, rows-length, place-most}
 use Rattle.evidence.proofs.typing.row_line.Statement.{statement}
 use Rattle.evidence.proofs.typing.row_line.Tie as tie

@@ -3,7 +3,7 @@ use Prim.Native.Nat.{ℕ, _+_}
 use mathlib.Core.Bool.{Bool, true, false, cond, _&&_}
 use mathlib.Core.Path.{_≡_, refl, ap}
 use lib.Dec.{ltb, eqb}
-use Rattle.lines.specs.Fields.{faultOf}
+use Rattle.fields.specs.Fields.{faultOf}
 
 -- 0 for a good line
 unfoldable pub turnOf : (formed declared : Bool) → ℕ

@@ -1,4 +1,4 @@
-// Names and sets of names against a table of declared names.
+// One field of a line: a name or a set of names against the names above, and what is wrong with it.
 ghost use mathlib.Core.Path.{_≡_};
 ghost use Prim.Native.Nat.{_*_, _≤_, max};
 ghost use lib.ListN.{length};
@@ -6,7 +6,10 @@ ghost use mathlib.Core.Bool.{true, false};
 ghost use Rattle.text.specs.Forms.{bytes, every, isName};
 ghost use Rattle.text.specs.Names.{rows};
 ghost use Rattle.text.specs.Pieces.{split, sameBytes};
-ghost use Rattle.lines.specs.Fields.{nameRead, setRead, areSet, malformedSet, undeclaredSet};
+ghost use Rattle.fields.specs.Fields.{nameRead, setRead, areSet, malformedSet, undeclaredSet};
+
+pub mod turns;
+
 use roles::RoleSet;
 
 // A name field: the fault, 2 malformed, 1 undeclared, 0 none, and the name's place.

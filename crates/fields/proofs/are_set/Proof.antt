@@ -3,10 +3,10 @@ use borrow.Author.Needs.{needs}
 use borrow.Author.Tests.{not-true, not-false}
 use mathlib.Core.Bool.{Bool, not, _&&_}
 use mathlib.Core.Path.{sym, ap, _∙_}
-use Rattle.lines.specs.Fields.{areSet}
+use Rattle.fields.specs.Fields.{areSet}
 use Rattle.text.specs.Pieces.{split, repeated}
-use Rattle.lines.proofs.fields.are_set.Statement.{statement}
-use Rattle.lines.proofs.fields.are_set.Tie as tie
+use Rattle.fields.proofs.are_set.Statement.{statement}
+use Rattle.fields.proofs.are_set.Tie as tie
 
 all-names-requires : tie.Need-all-names-requires
 all-names-requires c κs = search needs

@@ -13,8 +13,8 @@ use Rattle.text.specs.declared.Name.{Name}
 use Rattle.text.specs.Forms.{every, isName, isSet, namesOf}
 use Rattle.text.specs.Names.{packed, placeOf, rows, rows-length}
 use Rattle.text.specs.Pieces.{repeated}
-use Rattle.lines.specs.declared.fields.NameRead.{NameRead}
-use Rattle.lines.specs.declared.fields.SetRead.{SetRead}
+use Rattle.fields.specs.declared.NameRead.{NameRead}
+use Rattle.fields.specs.declared.SetRead.{SetRead}
 
 -- where a name stands in a table, the number of names where it is not declared
 unfoldable pub placed : List Name → List ℕ → ℕ

@@ -1,6 +1,6 @@
 // Within a line of evidence, malformed, then names.
 ghost use mathlib.Core.Path.{_≡_};
-ghost use Rattle.evidence.specs.Turns.{turnOf};
+ghost use Rattle.fields.specs.Turns.{turnOf};
 
 // The refusal's number, 0 where the line is good.
 pub fn turn(formed: bool, declared: bool) -> u64

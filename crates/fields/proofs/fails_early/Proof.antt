@@ -6,9 +6,9 @@ use lib.Seq.{length-take-le}
 use mathlib.Core.Bool.{false≢true}
 use mathlib.Core.Path.{sym, _∙_}
 use native.Mathlib.Omega.{arith}
-use Rattle.lines.specs.Sets.{start-fails}
-use Rattle.lines.proofs.fields.fails_early.Statement.{statement}
-use Rattle.lines.proofs.fields.fails_early.Tie as tie
+use Rattle.fields.specs.Sets.{start-fails}
+use Rattle.fields.proofs.fails_early.Statement.{statement}
+use Rattle.fields.proofs.fails_early.Tie as tie
 
 returns : tie.Need-returns
 returns c = λ told. absurd (false≢true told)

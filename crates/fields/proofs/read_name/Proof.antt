@@ -6,13 +6,13 @@ use lib.Dec.{ltb}
 use mathlib.Core.Bool.{true, false}
 use mathlib.Core.Path.{_≡_, sym, _∙_, ap}
 use mathlib.Core.Path.{sym, ap, _∙_}
-use Rattle.lines.specs.Fields.{nameRead, faultOf, placed, declared-test, new-test, worse}
-use Rattle.lines.specs.Fields.{nameRead, faultOf, placed, declared-test}
-use Rattle.lines.specs.Fields.{placed, declared-test, name-bad, name-good}
+use Rattle.fields.specs.Fields.{nameRead, faultOf, placed, declared-test, new-test, worse}
+use Rattle.fields.specs.Fields.{nameRead, faultOf, placed, declared-test}
+use Rattle.fields.specs.Fields.{placed, declared-test, name-bad, name-good}
 use Rattle.text.specs.Names.{placeOf, rows}
 use Rattle.text.specs.Names.{rows}
-use Rattle.lines.proofs.fields.read_name.Statement.{statement}
-use Rattle.lines.proofs.fields.read_name.Tie as tie
+use Rattle.fields.proofs.read_name.Statement.{statement}
+use Rattle.fields.proofs.read_name.Tie as tie
 
 pack-requires : tie.Need-pack-requires
 pack-requires c κs = search needs

@@ -1,8 +1,8 @@
 -- `turn` goes by the two flags, one after the other.
 use borrow.Author.Tests.{not-true, not-false}
-use Rattle.evidence.specs.Turns.{turnOf}
-use Rattle.evidence.proofs.turns.turn.Statement.{statement}
-use Rattle.evidence.proofs.turns.turn.Tie as tie
+use Rattle.fields.specs.Turns.{turnOf}
+use Rattle.fields.proofs.turns.turn.Statement.{statement}
+use Rattle.fields.proofs.turns.turn.Tie as tie
 
 returns : tie.Need-returns
 unfolding turnOf

@@ -6,11 +6,11 @@ use lib.ListN.{length, drop}
 use mathlib.Core.Bool.{true}
 use mathlib.Core.Path.{_≡_, refl, sym, ap, _∙_}
 use native.Mathlib.Omega.{arith}
-use Rattle.lines.specs.Sets.{first-fails, first-holds}
+use Rattle.fields.specs.Sets.{first-fails, first-holds}
 use Rattle.text.specs.Forms.{every, isName}
 use Rattle.text.specs.Pieces.{split, sought-cut, sought-some, sought-last}
-use Rattle.lines.proofs.fields.all_names.Statement.{statement}
-use Rattle.lines.proofs.fields.all_names.Tie as tie
+use Rattle.fields.proofs.all_names.Statement.{statement}
+use Rattle.fields.proofs.all_names.Tie as tie
 
 abbrev Inv-loop : tie.InvT-loop
 Inv-loop field at₀ at = (at ≤ length field) × (every isName (split 44 field) ≡ every isName (split 44 (drop at field)))

@@ -15,8 +15,8 @@ use Rattle.text.specs.Forms.{bytes, every, every-more, isName, isSet, namesOf}
 use Rattle.text.specs.Names.{packed, sameName, placeOf, packed-one-to-one, place-one-to-one}
 use Rattle.text.specs.Pieces.{split, sameBytes, among, repeated, same-equal, equal-same, Sought, sought-none, sought-some, sought-start, part-rest}
 use Rattle.text.specs.Repeats.{still-single, now-repeated, repeated-start}
-use Rattle.lines.specs.declared.fields.SetRead.{SetRead}
-use Rattle.lines.specs.Fields.{placed, isDeclared, allDeclared, rolesFrom, rolesOf, faultOf, areSet, malformedSet, undeclaredSet, setRead}
+use Rattle.fields.specs.declared.SetRead.{SetRead}
+use Rattle.fields.specs.Fields.{placed, isDeclared, allDeclared, rolesFrom, rolesOf, faultOf, areSet, malformedSet, undeclaredSet, setRead}
 
 -- ---- a name stands twice exactly where its role is in the set already
 

@@ -2,9 +2,9 @@
 use borrow.Author.Needs.{needs}
 use borrow.Author.Tests.{not-true, not-false}
 use mathlib.Core.Path.{sym, _∙_}
-use Rattle.lines.specs.Sets.{undeclared-malformed, undeclared-set}
-use Rattle.lines.proofs.fields.read_undeclared.Statement.{statement}
-use Rattle.lines.proofs.fields.read_undeclared.Tie as tie
+use Rattle.fields.specs.Sets.{undeclared-malformed, undeclared-set}
+use Rattle.fields.proofs.read_undeclared.Statement.{statement}
+use Rattle.fields.proofs.read_undeclared.Tie as tie
 
 fails-early-requires : tie.Need-fails-early-requires
 fails-early-requires c κs = search needs

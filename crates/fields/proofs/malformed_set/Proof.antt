@@ -2,11 +2,11 @@
 use Prim.Native.Nat.{ℕ}
 use borrow.Author.Needs.{needs}
 use mathlib.Core.Path.{ap}
-use Rattle.lines.specs.Fields.{malformedSet}
-use Rattle.lines.specs.declared.fields.SetRead.{SetRead}
+use Rattle.fields.specs.Fields.{malformedSet}
+use Rattle.fields.specs.declared.SetRead.{SetRead}
 use Rattle.roles.specs.declared.RoleSet.{RoleSet}
-use Rattle.lines.proofs.fields.malformed_set.Statement.{statement}
-use Rattle.lines.proofs.fields.malformed_set.Tie as tie
+use Rattle.fields.proofs.malformed_set.Statement.{statement}
+use Rattle.fields.proofs.malformed_set.Tie as tie
 
 empty-requires : tie.Need-empty-requires
 empty-requires c κs = search needs

@@ -5,9 +5,9 @@ use lib.ListN.{length, drop}
 use mathlib.Core.Path.{_≡_, refl, sym, ap, _∙_, subst⁻¹}
 use mathlib.Core.Path.{_≡_, refl, sym, ap, _∙_}
 use native.Mathlib.Omega.{arith}
-use Rattle.lines.specs.Fields.{fault-undeclared, fault-malformed, fault-none, at-place, few-rows}
-use Rattle.lines.specs.Fields.{fault-undeclared, fault-malformed, fault-none}
-use Rattle.lines.specs.Sets.{Walked, walked-start, walk-malformed, walk-undeclared, walk-repeated, walk-next, walk-last, empty-set}
+use Rattle.fields.specs.Fields.{fault-undeclared, fault-malformed, fault-none, at-place, few-rows}
+use Rattle.fields.specs.Fields.{fault-undeclared, fault-malformed, fault-none}
+use Rattle.fields.specs.Sets.{Walked, walked-start, walk-malformed, walk-undeclared, walk-repeated, walk-next, walk-last, empty-set}
 use Rattle.roles.specs.Sets.{emptySet, hasRole, withOf}
 use Rattle.roles.specs.Sets.{emptySet}
 use Rattle.roles.specs.declared.RoleSet.{RoleSet}
@@ -15,8 +15,8 @@ use Rattle.text.specs.Names.{rows, rows-length}
 use Rattle.text.specs.Names.{rows}
 use Rattle.text.specs.Pieces.{sought-cut, sought-some, sought-last}
 use Rattle.text.specs.Pieces.{split, sought-cut, sought-some, sought-last}
-use Rattle.lines.proofs.fields.read_set.Statement.{statement}
-use Rattle.lines.proofs.fields.read_set.Tie as tie
+use Rattle.fields.proofs.read_set.Statement.{statement}
+use Rattle.fields.proofs.read_set.Tie as tie
 
 abbrev Inv-loop : tie.InvT-loop
 Inv-loop field table count roles₀ at₀ roles at = (at ≤ length field) × Walked (rows count table) field at roles
