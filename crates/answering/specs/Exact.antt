@@ -10,8 +10,8 @@ use Rattle.model.specs.Meaning.{meaning}
 use Rattle.model.specs.Safety.{Attack, accepted-safe, never-both as model-never-both}
 use Rattle.reading.specs.Texts.{Reading, read, refused}
 use Rattle.reading.specs.Policy.{Said, policyOf, countsOf, readPolicy}
-use Rattle.evidence.specs.TypingText.{Typed, readTyping, tableOf}
-use Rattle.evidence.specs.Place.{isTyping}
+use Rattle.typings.specs.TypingText.{Typed, readTyping, tableOf}
+use Rattle.places.specs.Place.{isTyping}
 use Rattle.judging.specs.declared.Part.{Part}
 use Rattle.judging.specs.declared.TypingVerdict.{TypingVerdict}
 use Rattle.judging.specs.Exact.{FirstFailure}

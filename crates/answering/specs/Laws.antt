@@ -15,10 +15,10 @@ use Rattle.reading.specs.declared.policy.Policy.{Policy}
 use Rattle.reading.specs.Policy.{Said, countsOf, laidOut, readPolicy}
 use Rattle.reading.specs.Reached.{Bounded}
 use Rattle.reading.specs.Told.{counts-laid, roles-laid, users-laid}
-use Rattle.evidence.specs.declared.typing.TypingRead.{TypingRead}
-use Rattle.evidence.specs.TypingText.{Typed, readTyping, tableOf, typingRead}
-use Rattle.evidence.specs.TypingTold.{typing-told, typing-untold}
-use Rattle.evidence.specs.Place.{isTyping}
+use Rattle.typings.specs.declared.TypingRead.{TypingRead}
+use Rattle.typings.specs.TypingText.{Typed, readTyping, tableOf, typingRead}
+use Rattle.typings.specs.TypingTold.{typing-told, typing-untold}
+use Rattle.places.specs.Place.{isTyping}
 use Rattle.judging.specs.Layout.{subject-laid}
 use Rattle.judging.specs.declared.Part.{Part}
 use Rattle.judging.specs.declared.TypingVerdict.{TypingVerdict}

@@ -15,11 +15,11 @@ use Rattle.text.specs.Names.{sameName}
 use Rattle.reading.specs.Policy.{policyOf, padded}
 use Rattle.reading.specs.Worked.{reading}
 use Rattle.fields.specs.Turns.{turnOf}
-use Rattle.evidence.specs.TypingLines as typing
-use Rattle.evidence.specs.TypingText as typings
-use Rattle.evidence.specs.TraceLines as trace
-use Rattle.evidence.specs.TraceText as traces
-use Rattle.evidence.specs.Place.{isTyping}
+use Rattle.typings.specs.TypingLines as typing
+use Rattle.typings.specs.TypingText as typings
+use Rattle.traces.specs.TraceLines as trace
+use Rattle.traces.specs.TraceText as traces
+use Rattle.places.specs.Place.{isTyping}
 use Rattle.steps.specs.First.{first, firstFrom}
 use Rattle.steps.specs.Tests.{mayAssign, mayRevoke, withTarget, withoutTarget, lowestGoal, ownGoal, badPerson, goalOf, firstBad}
 use Rattle.steps.specs.Traces.{assignAt, revokeAt, possible, after, later, runOf}

@@ -5,19 +5,19 @@ ghost use lib.ListN.{length};
 ghost use Rattle.text.specs.Names.{rows};
 ghost use Rattle.answering.specs.Answers.{judgedAnswer, traceAnswer, answerOf, nameAt};
 ghost use Rattle.answering.specs.Named.{namedOver, unnamedAnswer, namedAnswer};
-use evidence::place::is_typing;
-use evidence::typing::read_typing;
 use judging::Part;
 use judging::TypingVerdict;
 use judging::judge_typing;
 use judging::pinned;
 use lines::Counts;
 use model::Typing;
+use places::is_typing;
 use reading::policy::has_header;
 use reading::policy::read_policy;
 use running::TraceVerdict;
 use running::run_trace;
 use text::Name;
+use typings::read_typing;
 
 // The answer to two texts.
 pub enum Answer {

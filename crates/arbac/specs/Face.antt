@@ -4,7 +4,7 @@ use mathlib.Core.Bool.{Bool, cond}
 use mathlib.Core.List.{List, [], _∷_}
 use lib.Dec.{leb}
 use lib.ListN.{length}
-use Rattle.evidence.specs.Place.{badPlace}
+use Rattle.places.specs.Place.{badPlace}
 use Rattle.writing.specs.Written.{put}
 use Rattle.merging.specs.declared.SumAnswer.{SumAnswer}
 use Rattle.merging.specs.declared.MergeAnswer.{MergeAnswer}

@@ -9,7 +9,7 @@ use lib.Dec.{leb, lit≤}
 use lib.ListN.{length, take, drop, length-append}
 use native.Mathlib.Omega.{arith}
 use Rattle.text.specs.declared.Name.{Name}
-use Rattle.evidence.specs.Place.{badPlace, badLine}
+use Rattle.places.specs.Place.{badPlace, badLine}
 use Rattle.judging.specs.declared.Part.{Part}
 use Rattle.writing.specs.Spelling.{decimal-length, spelled-length}
 use Rattle.merging.specs.declared.SumAnswer.{SumAnswer}

@@ -10,9 +10,9 @@ use native.Mathlib.Omega.{arith}
 use Rattle.model.specs.Policy.{State, Run, Present}
 use Rattle.model.specs.Policy as model
 use Rattle.model.specs.States.{present-back}
-use Rattle.evidence.specs.declared.place.BadPlace.{BadPlace}
-use Rattle.evidence.specs.Place.{badPlace}
-use Rattle.evidence.specs.PlaceLaws.{evidence-inside, policy-inside}
+use Rattle.places.specs.declared.BadPlace.{BadPlace}
+use Rattle.places.specs.Place.{badPlace}
+use Rattle.places.specs.PlaceLaws.{evidence-inside, policy-inside}
 use Rattle.reading.specs.Policy.{policyOf}
 use Rattle.reading.specs.Kept.{read-bounded}
 use Rattle.steps.specs.Exact.{ran-run}

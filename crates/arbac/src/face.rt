@@ -12,9 +12,9 @@ use crate::numbers::tell_merge;
 use crate::numbers::tell_sum;
 use crate::numbers::write_numbers;
 use answering::check;
-use evidence::place::bad_place;
 use merging::merge::merge;
 use merging::sums::sum;
+use places::bad_place;
 use printing::check_line;
 
 // Tells the answer to a policy text and a piece of evidence in an array of at least 6 numbers, and answers how many they are;

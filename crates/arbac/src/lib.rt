@@ -3,8 +3,8 @@ pub mod face;
 mod numbers;
 
 pub use answering::check;
-pub use evidence::place::bad_line;
-pub use evidence::place::bad_place;
 pub use merging::merge::merge;
 pub use merging::sums::sum;
+pub use places::bad_line;
+pub use places::bad_place;
 pub use printing::check_line;

@@ -11,7 +11,7 @@ fn field(number: usize) {
 
 // Writes where the bad line stands.
 fn show_bad_line(policy: &[u8], evidence: &[u8]) {
-    let place = evidence::place::bad_place(policy, evidence);
+    let place = places::bad_place(policy, evidence);
     if place.evidence {
         io::write_all(STDOUT_FILENO, b"\tevidence");
     } else {

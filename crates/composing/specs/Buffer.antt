@@ -5,7 +5,7 @@ use mathlib.Core.List.{List}
 use mathlib.Core.Path.{_≡_, sym, ap, subst, _∙_}
 use lib.ListN.{length, take, drop}
 use Rattle.reading.specs.Policy.{Said}
-use Rattle.evidence.specs.TypingText.{Typed}
+use Rattle.typings.specs.TypingText.{Typed}
 use Rattle.writing.specs.Buffers.{put-before, put-past}
 use Rattle.merging.specs.declared.SumAnswer.{SumAnswer}
 use Rattle.merging.specs.declared.MergeAnswer.{MergeAnswer}

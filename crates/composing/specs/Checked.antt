@@ -13,8 +13,8 @@ use Rattle.text.specs.declared.Name.{Name}
 use Rattle.text.specs.Pieces.{sameBytes}
 use Rattle.reading.specs.Texts.{read}
 use Rattle.reading.specs.Policy.{Said, policyOf, countsOf, readPolicy}
-use Rattle.evidence.specs.TypingText.{Typed, readTyping, tableOf}
-use Rattle.evidence.specs.Place.{isTyping}
+use Rattle.typings.specs.TypingText.{Typed, readTyping, tableOf}
+use Rattle.places.specs.Place.{isTyping}
 use Rattle.judging.specs.Verdict.{pinnedNames}
 use Rattle.writing.specs.TypingText.{typingText}
 use Rattle.rereading.specs.Fits.{fits-read}

@@ -11,7 +11,7 @@ use Rattle.model.specs.Meaning.{meaning}
 use Rattle.rules.specs.Exact.{Laid}
 use Rattle.reading.specs.Texts.{read}
 use Rattle.reading.specs.Policy.{Said, policyOf, readPolicy}
-use Rattle.evidence.specs.TypingText.{Typed, readTyping, tableOf}
+use Rattle.typings.specs.TypingText.{Typed, readTyping, tableOf}
 use Rattle.judging.specs.declared.Part.{Part}
 use Rattle.judging.specs.declared.TypingVerdict.{TypingVerdict}
 use Rattle.judging.specs.Verdict.{typingVerdict, rulesVerdict}

@@ -9,7 +9,7 @@ use Rattle.model.specs.Meaning.{meaning}
 use Rattle.model.specs.Sum.{Compatible}
 use Rattle.reading.specs.Texts.{read, refused}
 use Rattle.reading.specs.Policy.{Said, policyOf, readPolicy}
-use Rattle.evidence.specs.TypingText.{Typed, readTyping, tableOf}
+use Rattle.typings.specs.TypingText.{Typed, readTyping, tableOf}
 use Rattle.judging.specs.declared.Part.{Part}
 use Rattle.judging.specs.Verdict.{pinnedNames}
 use Rattle.judging.specs.Exact.{FirstRule, FirstFailure}

@@ -5,7 +5,7 @@ use mathlib.Core.Path.{_≡_, ap, _∙_}
 use lib.ListN.{take}
 use Rattle.reading.specs.Texts.{read}
 use Rattle.reading.specs.Policy.{Said, readPolicy}
-use Rattle.evidence.specs.TypingText.{Typed, readTyping}
+use Rattle.typings.specs.TypingText.{Typed, readTyping}
 use Rattle.rereading.specs.Named.{names-read}
 use Rattle.rereading.specs.Fits.{Fits, fits-read}
 use Rattle.merging.specs.declared.SumAnswer.{SumAnswer}

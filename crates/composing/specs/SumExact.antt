@@ -6,7 +6,7 @@ use mathlib.Core.Logic.{_↔_, _⊎_, inl, inr}
 use mathlib.Core.Path.{_≡_, refl, ap, _∙_}
 use Rattle.reading.specs.Texts.{Reading, read, refused}
 use Rattle.reading.specs.Policy.{Said, readPolicy}
-use Rattle.evidence.specs.TypingText.{Typed, readTyping, tableOf}
+use Rattle.typings.specs.TypingText.{Typed, readTyping, tableOf}
 use Rattle.merging.specs.declared.SumAnswer.{SumAnswer}
 use Rattle.merging.specs.Sums.{sumOf}
 use Rattle.merging.specs.Outcome.{Outcome, leaves, answerIn, whenRead}

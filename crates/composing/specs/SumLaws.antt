@@ -11,7 +11,7 @@ use Rattle.model.specs.declared.Typing.{Typing as Table}
 use Rattle.text.specs.declared.Name.{Name}
 use Rattle.reading.specs.Texts.{read}
 use Rattle.reading.specs.Policy.{Said, readPolicy}
-use Rattle.evidence.specs.TypingText.{Typed, readTyping, tableOf}
+use Rattle.typings.specs.TypingText.{Typed, readTyping, tableOf}
 use Rattle.writing.specs.TypingText.{typingText}
 use Rattle.rereading.specs.Fits.{fits-read}
 use Rattle.merging.specs.declared.SumAnswer.{SumAnswer}

@@ -6,7 +6,7 @@ use mathlib.Core.Path.{_≡_}
 use lib.ListN.{length}
 use Rattle.reading.specs.Texts.{read, refused}
 use Rattle.reading.specs.Policy.{Said, readPolicy}
-use Rattle.evidence.specs.TypingText.{Typed, readTyping, tableOf}
+use Rattle.typings.specs.TypingText.{Typed, readTyping, tableOf}
 use Rattle.judging.specs.Verdict.{pinnedNames}
 use Rattle.writing.specs.TypingText.{typingText}
 use Rattle.merging.specs.declared.SumAnswer.{SumAnswer}

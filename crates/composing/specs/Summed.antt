@@ -16,7 +16,7 @@ use Rattle.model.specs.Meaning.{meaning}
 use Rattle.text.specs.declared.Name.{Name}
 use Rattle.reading.specs.Texts.{read}
 use Rattle.reading.specs.Policy.{padded}
-use Rattle.evidence.specs.TypingText.{Typed, readTyping, tableOf}
+use Rattle.typings.specs.TypingText.{Typed, readTyping, tableOf}
 use Rattle.writing.specs.TypingText.{typingText}
 use Rattle.rereading.specs.Named.{Named}
 use Rattle.rereading.specs.Fits.{Inside, Fits}

@@ -12,7 +12,7 @@ use Rattle.text.specs.declared.Name.{Name}
 use Rattle.reading.specs.Texts.{read}
 use Rattle.reading.specs.Policy.{Said, policyOf, readPolicy}
 use Rattle.reading.specs.Kept.{read-bounded}
-use Rattle.evidence.specs.TypingText.{Typed, readTyping, tableOf}
+use Rattle.typings.specs.TypingText.{Typed, readTyping, tableOf}
 use Rattle.rereading.specs.Fits.{Fits, fits-read}
 use Rattle.merging.specs.Sums.{sumOf}
 use Rattle.merging.specs.Outcome.{answerIn}

@@ -13,9 +13,9 @@ use Rattle.reading.specs.Texts.{refused}
 use Rattle.reading.specs.Policy.{Said, countsOf, laidOut}
 use Rattle.reading.specs.Reached.{Bounded}
 use Rattle.reading.specs.Told.{Told, counts-laid, roles-laid, tables-laid}
-use Rattle.evidence.specs.declared.typing.TypingRead.{TypingRead}
-use Rattle.evidence.specs.TypingText.{readTyping, typingRead}
-use Rattle.evidence.specs.TypingTold.{TypingTold, typing-told, typing-untold}
+use Rattle.typings.specs.declared.TypingRead.{TypingRead}
+use Rattle.typings.specs.TypingText.{readTyping, typingRead}
+use Rattle.typings.specs.TypingTold.{TypingTold, typing-told, typing-untold}
 use Rattle.judging.specs.declared.TypingVerdict.{TypingVerdict}
 use Rattle.judging.specs.Verdict.{subjectIn, judgedTyping, judgedRules, typingVerdict, rulesVerdict}
 use Rattle.judging.specs.Layout.{typing-laid, rules-laid}

@@ -6,7 +6,7 @@ use lib.Dec.{leb}
 use lib.ListN.{length}
 use Rattle.model.specs.declared.Typing.{Typing as Table}
 use Rattle.reading.specs.Policy.{Said, readPolicy}
-use Rattle.evidence.specs.TypingText.{Typed, readTyping, tableOf}
+use Rattle.typings.specs.TypingText.{Typed, readTyping, tableOf}
 use Rattle.judging.specs.declared.TypingVerdict.{TypingVerdict}
 use Rattle.judging.specs.Verdict.{typingVerdict, rulesVerdict, partNumber, pinnedNames}
 use Rattle.writing.specs.TypingText.{typingText}

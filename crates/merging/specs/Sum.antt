@@ -6,7 +6,7 @@ use lib.ListN.{length}
 use Rattle.model.specs.declared.Typing.{Typing as Table}
 use Rattle.text.specs.declared.Name.{Name}
 use Rattle.reading.specs.Policy.{Said, readPolicy}
-use Rattle.evidence.specs.TypingText.{Typed, readTyping, tableOf}
+use Rattle.typings.specs.TypingText.{Typed, readTyping, tableOf}
 use Rattle.judging.specs.Verdict.{pinnedNames}
 use Rattle.writing.specs.TypingText.{typingText}
 use Rattle.merging.specs.declared.SumAnswer.{SumAnswer}

@@ -11,7 +11,7 @@ use Rattle.model.specs.declared.Typing.{Typing as Table}
 use Rattle.model.specs.Typing.{sum}
 use Rattle.model.specs.Meaning.{meaning}
 use Rattle.reading.specs.Policy.{padded}
-use Rattle.evidence.specs.TypingText.{Typed, tableOf}
+use Rattle.typings.specs.TypingText.{Typed, tableOf}
 use Rattle.merging.specs.Sums.{paired, sumOf}
 
 -- ---- two lists of the same length, element by element

@@ -7,7 +7,7 @@ use Rattle.text.specs.Names.{rows}
 use Rattle.reading.specs.declared.policy.Policy.{Policy}
 use Rattle.reading.specs.Texts.{read, refused}
 use Rattle.reading.specs.Policy.{Said, readPolicy}
-use Rattle.evidence.specs.TypingText.{Typed, readTyping, tableOf}
+use Rattle.typings.specs.TypingText.{Typed, readTyping, tableOf}
 use Rattle.judging.specs.Verdict.{pinnedNames}
 use Rattle.writing.specs.TypingText.{typingText}
 use Rattle.merging.specs.declared.SumAnswer.{SumAnswer}

@@ -8,7 +8,6 @@ use crate::MergeAnswer;
 use crate::directory::same_directory;
 use crate::fitting::write_fitting;
 use crate::sums::sum_of;
-use evidence::typing::read_typing;
 use judging::TypingVerdict;
 use judging::judge_rules;
 use judging::judge_typing;
@@ -16,6 +15,7 @@ use judging::pinned;
 use model::Typing;
 use reading::policy::Policy;
 use reading::policy::read_policy;
+use typings::read_typing;
 
 // The sum of accepted typings written, with the joint counts: 19 where one of them is above its limit, 18 where the text does
 // not fit.

@@ -8,11 +8,11 @@ ghost use Rattle.merging.specs.Sum.{sumWritten, sumOutcome};
 ghost use Rattle.merging.specs.Sums.{sumOf};
 use crate::SumAnswer;
 use crate::fitting::write_fitting;
-use evidence::typing::read_typing;
 use judging::pinned;
 use model::Typing;
 use reading::policy::Policy;
 use reading::policy::read_policy;
+use typings::read_typing;
 
 // The sum of two typings: a label is H when either is H, and plus and minus sets are unions.
 pub fn sum_of(t: Typing, u: Typing) -> Typing

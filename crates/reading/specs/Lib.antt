@@ -5,6 +5,7 @@ pub mod Walk
 pub mod Reached
 pub mod Kept
 pub mod Exact
+pub mod Evidence
 pub mod PolicyExact
 pub mod Told
 pub mod Header

@@ -17,10 +17,10 @@ use Rattle.reading.specs.Texts.{Judged, goes, ends, bad, read}
 use Rattle.fields.specs.Fields.{placed, isDeclared, allDeclared, rolesOf}
 use Rattle.reading.specs.Kept.{text-keeps}
 use Rattle.reading.specs.Exact.{read-exact}
-use Rattle.evidence.specs.declared.typing.TypingEntry.{TypingEntry}
+use Rattle.typings.specs.declared.TypingEntry.{TypingEntry}
 use Rattle.fields.specs.Turns.{turnOf}
-use Rattle.evidence.specs.TypingLines.{Line, header, row, end, other, lineOf, wellFormed, named, entry, answerTo, judged, typingLine}
-use Rattle.evidence.specs.TypingText.{Typed, untyped, added, answered, judgeLine, readTyping}
+use Rattle.typings.specs.TypingLines.{Line, header, row, end, other, lineOf, wellFormed, named, entry, answerTo, judged, typingLine}
+use Rattle.typings.specs.TypingText.{Typed, untyped, added, answered, judgeLine, readTyping}
 use Rattle.verdicts.specs.Sizes.{roles-sized, each-more}
 use Rattle.verdicts.specs.TypingLaid.{read-rows}
 use Rattle.rereading.specs.Roles.{role-passes}

@@ -15,10 +15,10 @@ use Rattle.text.specs.Pieces.{split, onto, sameBytes}
 use Rattle.fields.specs.Fields.{placed}
 use Rattle.writing.specs.Written.{spelled}
 use Rattle.writing.specs.TypingText.{setText, labelText}
-use Rattle.evidence.specs.declared.typing.TypingEntry.{TypingEntry}
-use Rattle.evidence.specs.declared.typing.TypingLine.{TypingLine}
+use Rattle.typings.specs.declared.TypingEntry.{TypingEntry}
+use Rattle.typings.specs.declared.TypingLine.{TypingLine}
 use Rattle.fields.specs.Turns.{turnOf}
-use Rattle.evidence.specs.TypingLines.{row, oneField, twoFields, lineOf, wellFormed, named, entry, answerTo, judged, typingLine}
+use Rattle.typings.specs.TypingLines.{row, oneField, twoFields, lineOf, wellFormed, named, entry, answerTo, judged, typingLine}
 use Rattle.rereading.specs.Cuts.{free, cut-first, cut-last, free-join, free-name}
 use Rattle.rereading.specs.Joined.{Apart}
 use Rattle.rereading.specs.Named.{Spelt, Named}

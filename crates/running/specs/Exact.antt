@@ -17,7 +17,7 @@ use Rattle.steps.specs.Tests.{firstBad}
 use Rattle.steps.specs.Traces.{assignAt, revokeAt, possible, Ran, broken, ran, runOf}
 use Rattle.steps.specs.Exact.{SizedRules, BrokenAt, assign-possible, revoke-possible, ran-run, broken-first as run-broken}
 use Rattle.steps.specs.Bad.{SizedGoals, FirstBad, bad-exact, bad-first, first-only, first-is-bad}
-use Rattle.evidence.specs.TraceText.{Traced, readTrace}
+use Rattle.traces.specs.TraceText.{Traced, readTrace}
 use Rattle.running.specs.declared.TraceVerdict.{TraceVerdict}
 use Rattle.running.specs.Ends.{last-short, last-attacked}
 use Rattle.running.specs.Verdict.{ranVerdict, readVerdict, traceVerdict}

@@ -12,10 +12,10 @@ use Rattle.text.specs.Forms.{isName, numberOf}
 use Rattle.text.specs.Pieces.{split}
 use Rattle.fields.specs.Fields.{placed, isDeclared}
 use Rattle.steps.specs.declared.Step.{Step}
-use Rattle.evidence.specs.declared.trace.TraceEntry.{TraceEntry}
-use Rattle.evidence.specs.declared.trace.TraceLine.{TraceLine}
+use Rattle.traces.specs.declared.TraceEntry.{TraceEntry}
+use Rattle.traces.specs.declared.TraceLine.{TraceLine}
 use Rattle.fields.specs.Turns.{turnOf}
-use Rattle.evidence.specs.TraceLines.{Line, header, assign, revoke, end, other, lineOf, isStep, stepNamed, wellFormed, named, entry, answerTo, judged, traceLine}
+use Rattle.traces.specs.TraceLines.{Line, header, assign, revoke, end, other, lineOf, isStep, stepNamed, wellFormed, named, entry, answerTo, judged, traceLine}
 
 -- an actor, a rule and a user below their counts
 pub record InRange (rules users actor rule user : ℕ) : Type 0 where

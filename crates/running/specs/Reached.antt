@@ -23,10 +23,10 @@ use Rattle.steps.specs.Tests.{firstBad}
 use Rattle.steps.specs.Traces.{possible, after, Ran, ran, runOf}
 use Rattle.steps.specs.Runs.{run-more, run-breaks}
 use Rattle.steps.specs.Exact.{broken-stays}
-use Rattle.evidence.specs.declared.trace.TraceEntry.{TraceEntry}
-use Rattle.evidence.specs.declared.trace.TraceLine.{TraceLine}
-use Rattle.evidence.specs.TraceLines.{traceLine}
-use Rattle.evidence.specs.TraceText.{Traced, untraced, added, answered, judgeLine, readTrace}
+use Rattle.traces.specs.declared.TraceEntry.{TraceEntry}
+use Rattle.traces.specs.declared.TraceLine.{TraceLine}
+use Rattle.traces.specs.TraceLines.{traceLine}
+use Rattle.traces.specs.TraceText.{Traced, untraced, added, answered, judgeLine, readTrace}
 use Rattle.running.specs.declared.TraceVerdict.{TraceVerdict}
 use Rattle.running.specs.Layout.{Counted, saidIn}
 use Rattle.running.specs.declared.Tried.{Tried}

@@ -11,7 +11,7 @@ use Rattle.steps.specs.declared.Step.{Step}
 use Rattle.steps.specs.Tests.{mayAssign, mayRevoke, withTarget, withoutTarget}
 use Rattle.steps.specs.Traces.{assignAt, revokeAt, possible, after}
 use Rattle.steps.specs.Arrays.{assign-may, revoke-may, assign-after, revoke-after, person-taken, assign-taken, revoke-taken}
-use Rattle.evidence.specs.declared.trace.TraceEntry.{TraceEntry}
+use Rattle.traces.specs.declared.TraceEntry.{TraceEntry}
 use Rattle.running.specs.declared.Tried.{Tried}
 use Rattle.running.specs.Range.{Ranged}
 

@@ -11,7 +11,7 @@ use Rattle.reading.specs.Policy.{Said}
 use Rattle.steps.specs.declared.Found.{Found}
 use Rattle.steps.specs.Tests.{firstBad}
 use Rattle.steps.specs.Traces.{Ran, broken, ran, runOf}
-use Rattle.evidence.specs.TraceText.{Traced, readTrace}
+use Rattle.traces.specs.TraceText.{Traced, readTrace}
 use Rattle.running.specs.declared.TraceVerdict.{TraceVerdict}
 
 -- All steps are good: SHORT where nobody is found in the last state, and else ATTACKED, with the user's place from 0 and the goal's

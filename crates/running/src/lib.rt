@@ -3,10 +3,6 @@ ghost use mathlib.Core.Path.{_≡_};
 ghost use Rattle.steps.specs.Tests.{mayAssign, mayRevoke, withTarget, withoutTarget};
 ghost use Rattle.running.specs.Verdict.{endVerdict, traceVerdict};
 ghost use Rattle.running.specs.Layout.{Counted, saidIn};
-use evidence::trace::TraceEntry;
-use evidence::trace::TraceLine;
-use evidence::trace::code;
-use evidence::trace::read_line;
 use model::Assign;
 use model::Person;
 use model::Revoke;
@@ -18,6 +14,10 @@ use steps::given;
 use steps::may_assign;
 use steps::may_revoke;
 use steps::taken;
+use traces::TraceEntry;
+use traces::TraceLine;
+use traces::code;
+use traces::read_line;
 
 // The verdict on a trace.
 pub enum TraceVerdict {

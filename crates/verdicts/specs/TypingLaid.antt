@@ -22,12 +22,12 @@ use Rattle.fields.specs.Fields.{rolesOf}
 use Rattle.reading.specs.Policy.{padded}
 use Rattle.reading.specs.Kept.{text-keeps}
 use Rattle.steps.specs.Places.{at-listed}
-use Rattle.evidence.specs.declared.typing.TypingEntry.{TypingEntry}
-use Rattle.evidence.specs.declared.typing.TypingLine.{TypingLine}
+use Rattle.typings.specs.declared.TypingEntry.{TypingEntry}
+use Rattle.typings.specs.declared.TypingLine.{TypingLine}
 use Rattle.fields.specs.Turns.{turnOf}
-use Rattle.evidence.specs.TypingLines.{Line, header, row, end, other, lineOf, wellFormed, named, entry, answerTo, judged, typingLine}
-use Rattle.evidence.specs.TypingText.{Typed, untyped, added, answered, judgeLine, readTyping, tableOf}
-use Rattle.evidence.specs.TypingReached.{Rowed}
+use Rattle.typings.specs.TypingLines.{Line, header, row, end, other, lineOf, wellFormed, named, entry, answerTo, judged, typingLine}
+use Rattle.typings.specs.TypingText.{Typed, untyped, added, answered, judgeLine, readTyping, tableOf}
+use Rattle.typings.specs.TypingReached.{Rowed}
 use Rattle.verdicts.specs.Sizes.{roles-sized, each-more}
 
 -- As many labels and sets as rows, no more rows than roles, and the sets are words of 64 bits.

@@ -12,7 +12,7 @@ use Rattle.rules.specs.Exact.{Laid}
 use Rattle.reading.specs.Texts.{read}
 use Rattle.reading.specs.Policy.{Said, policyOf, readPolicy}
 use Rattle.reading.specs.Kept.{read-bounded}
-use Rattle.evidence.specs.TypingText.{Typed, readTyping, tableOf}
+use Rattle.typings.specs.TypingText.{Typed, readTyping, tableOf}
 use Rattle.judging.specs.declared.TypingVerdict.{TypingVerdict}
 use Rattle.judging.specs.Verdict.{typingVerdict}
 use Rattle.judging.specs.Exact.{typing-accepted}

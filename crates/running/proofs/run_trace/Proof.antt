@@ -7,9 +7,9 @@ use mathlib.Core.Path.{_≡_, sym, ap, subst, _∙_}
 use native.Mathlib.Omega.{arith}
 use Rattle.model.specs.Policy.{nobody, person}
 use Rattle.roles.specs.Sets.{emptySet}
-use Rattle.evidence.specs.TraceText.{codeOf}
-use Rattle.evidence.specs.declared.trace.TraceEntry.{TraceEntry}
-use Rattle.evidence.specs.declared.trace.TraceLine.{TraceLine}
+use Rattle.traces.specs.TraceText.{codeOf}
+use Rattle.traces.specs.declared.TraceEntry.{TraceEntry}
+use Rattle.traces.specs.declared.TraceLine.{TraceLine}
 use Rattle.steps.specs.declared.Step.{Step}
 use Rattle.steps.specs.Traces.{assignAt, revokeAt}
 use Rattle.running.specs.Range.{InRange, Ranged}

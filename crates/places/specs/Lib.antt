@@ -1,0 +1,3 @@
+-- The refusal of two texts, and where their bad line stands.
+pub mod Place
+pub mod PlaceLaws

@@ -1,0 +1,70 @@
+-- The refusal of a policy and a piece of evidence, and where the bad line stands (document 01, "Verdicts and refusal numbers").
+use Prim.Native.Nat.{ℕ, zero, suc, _+_, _-_, _≤_, _<_}
+use mathlib.Core.Bool.{Bool, true, false, cond, _&&_}
+use mathlib.Core.List.{List, [], _∷_}
+use mathlib.Core.Path.{_≡_, refl, sym, ap, ap₂, _∙_}
+use borrow.Author.Tests.{lt-ltb, le-ltb}
+use lib.Dec.{ltb, leb, eqb}
+use lib.ListN.{length, drop, getD}
+use native.Mathlib.Omega.{arith}
+use Rattle.bytes.specs.Bytes.{indexOf}
+use Rattle.text.specs.declared.Name.{Name}
+use Rattle.text.specs.Forms.{bytes}
+use Rattle.text.specs.Pieces.{split, part, sameBytes, Sought}
+use Rattle.reading.specs.Texts.{Reading, read, refused}
+use Rattle.reading.specs.Policy.{Said, readPolicy}
+use Rattle.places.specs.declared.Refusal.{Refusal}
+use Rattle.places.specs.declared.Span.{Span}
+use Rattle.places.specs.declared.BadPlace.{BadPlace}
+use Rattle.typings.specs.TypingText.{Typed, readTyping}
+use Rattle.traces.specs.TraceText.{Traced, readTrace}
+
+-- Evidence whose first line is a typing's header is a typing; any other is read as a trace.
+unfoldable pub isTyping : List ℕ → Bool
+isTyping text = sameBytes (part text 0 (indexOf 10 text)) (bytes "typing\t1")
+
+-- a refusal's number and line, 0 and 0 for a text that is read
+unfoldable pub told : {S : Type 0} → Reading S → Refusal
+told (read s) = record { number = 0; line = 0 }
+told (refused number line) = record { number = number; line = line }
+
+-- the refusal of evidence over a policy's counts and names
+unfoldable pub refusedOver : (assigns revokes : ℕ) (roles users : List Name) → List ℕ → Refusal
+refusedOver assigns revokes roles users text = cond (isTyping text) (told (readTyping roles text)) (told (readTrace assigns revokes users text))
+
+-- Order: policy length, policy lines, evidence length, evidence lines.
+unfoldable pub refusalAfter : Reading Said → List ℕ → Refusal
+refusalAfter (read s) evidence = refusedOver (length (s .assigns)) (length (s .revokes)) (s .roles) (s .users) evidence
+refusalAfter (refused number line) evidence = record { number = number; line = line }
+
+unfoldable pub refusalOf : (policy evidence : List ℕ) → Refusal
+refusalOf policy evidence = refusalAfter (readPolicy policy) evidence
+
+-- no line: nowhere, at the start
+unfoldable pub noSpan : Span
+noSpan = record { found = false; from = 0; to = 0 }
+
+-- Where the line stands that comes so many lines after the one at a place, without its LF. What follows the last LF is a line
+-- where it has a byte.
+unfoldable pub spanOf : List ℕ → (at skipped : ℕ) → Span
+spanOf text at zero = cond (ltb at (length text)) (record { found = true; from = at; to = at + indexOf 10 (drop at text) }) noSpan
+spanOf text at (suc skipped) =
+    let stop = at + indexOf 10 (drop at text) in
+    let rest = spanOf text (stop + 1) skipped in
+    cond (ltb stop (length text)) rest noSpan
+
+-- The bad line of 11 to 13 is a line of the policy, that of 15 and 16 a line of the evidence; 10 and 14 have line 0.
+unfoldable pub badSpan : (policy evidence : List ℕ) → Refusal → Span
+badSpan policy evidence r = cond (eqb (r .line) 0) noSpan (cond (ltb (r .number) 14) (spanOf policy 0 (r .line - 1)) (spanOf evidence 0 (r .line - 1)))
+
+unfoldable pub badPlace : (policy evidence : List ℕ) → BadPlace
+badPlace policy evidence =
+    let r = refusalOf policy evidence in
+    let s = badSpan policy evidence r in
+    record { evidence = s .found && leb 14 (r .number); from = s .from; to = s .to }
+
+-- The bad line's bytes, a part of one of the two texts.
+unfoldable pub badLine : (policy evidence : List ℕ) → List ℕ
+badLine policy evidence =
+    let place = badPlace policy evidence in
+    cond (place .evidence) (part evidence (place .from) (place .to)) (part policy (place .from) (place .to))

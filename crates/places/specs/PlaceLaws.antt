@@ -1,0 +1,227 @@
+-- How a reader finds the refusal again and the bad line: the laws of their definitions.
+use Prim.Native.Nat.{ℕ, zero, suc, _+_, _-_, _≤_, _<_, zero-le}
+use mathlib.Core.Bool.{Bool, true, false, cond, _&&_, and-eq-true-iff, and-true, true≢false}
+use mathlib.Core.List.{List, [], _∷_}
+use mathlib.Core.Path.{_≡_, refl, sym, ap, ap₂, subst, subst⁻¹, _∙_}
+use borrow.Author.Tests.{lt-ltb, le-ltb, ltb-true, ltb-false, leb-true, le-leb, eq-eqb, ne-eqb}
+use lib.Dec.{ltb, leb, eqb}
+use lib.ListN.{length, drop, length-drop}
+use native.Mathlib.Nat.{zero-add}
+use native.Mathlib.Omega.{arith}
+use Rattle.bytes.specs.Bytes.{indexOf, indexAfter}
+use Rattle.text.specs.declared.Name.{Name}
+use Rattle.text.specs.Forms.{bytes}
+use Rattle.text.specs.Pieces.{part, sameBytes, Sought}
+use Rattle.reading.specs.Texts.{Reading, read, refused}
+use Rattle.text.specs.Names.{rows}
+use Rattle.lines.specs.declared.Counts.{Counts}
+use Rattle.reading.specs.declared.policy.Policy.{Policy}
+use Rattle.reading.specs.Policy.{Said, countsOf, laidOut, readPolicy}
+use Rattle.reading.specs.Reached.{Bounded}
+use Rattle.reading.specs.Told.{counts-laid, roles-laid, users-laid}
+use Rattle.typings.specs.declared.TypingRead.{TypingRead}
+use Rattle.traces.specs.declared.TraceRead.{TraceRead}
+use Rattle.places.specs.declared.Refusal.{Refusal}
+use Rattle.places.specs.declared.Span.{Span}
+use Rattle.places.specs.declared.BadPlace.{BadPlace}
+use Rattle.typings.specs.TypingText.{Typed, readTyping, refusedTyping, answerOf as typingAnswer, typingRead}
+use Rattle.traces.specs.TraceText.{Traced, readTrace, refusedTrace, answerOf as traceAnswer, traceRead}
+use Rattle.places.specs.Place.{isTyping, told, refusedOver, refusalAfter, refusalOf, noSpan, spanOf, badSpan, badPlace, badLine}
+
+-- the first line decides the kind
+pub typing-first : (text : List ℕ) {stop : ℕ} → Sought text 0 10 stop → sameBytes (part text 0 stop) (bytes "typing\t1") ≡ isTyping text
+unfolding isTyping
+typing-first text sought = ap (λ (k : ℕ). sameBytes (part text 0 k) (bytes "typing\t1")) (sought .first ∙ zero-add (indexOf 10 text))
+
+-- the refusal that a reader's record has
+typing-told : (r : Reading Typed) → record { number = typingAnswer r .refusal; line = typingAnswer r .line } ≡ told r
+unfolding typingAnswer refusedTyping told
+typing-told (read s) = refl
+typing-told (refused k n) = refl
+
+trace-told : (r : Reading Traced) → record { number = traceAnswer r .refusal; line = traceAnswer r .line } ≡ told r
+unfolding traceAnswer refusedTrace told
+trace-told (read s) = refl
+trace-told (refused k n) = refl
+
+module _ (assigns revokes : ℕ) (roles users : List Name) (text : List ℕ) where
+  pub over-typing : {T : TypingRead} → isTyping text ≡ true → T ≡ typingRead roles text → record { number = T .refusal; line = T .line } ≡ refusedOver assigns revokes roles users text
+  unfolding refusedOver typingRead
+  over-typing is given =
+      (λ i. record { number = given i .refusal; line = given i .line }) ∙ typing-told (readTyping roles text)
+      ∙ sym (ap (λ (b : Bool). cond b (told (readTyping roles text)) (told (readTrace assigns revokes users text))) is)
+
+  pub over-trace : {T : TraceRead} → isTyping text ≡ false → T ≡ traceRead assigns revokes users text → record { number = T .refusal; line = T .line } ≡ refusedOver assigns revokes roles users text
+  unfolding refusedOver traceRead
+  over-trace is given =
+      (λ i. record { number = given i .refusal; line = given i .line }) ∙ trace-told (readTrace assigns revokes users text)
+      ∙ sym (ap (λ (b : Bool). cond b (told (readTyping roles text)) (told (readTrace assigns revokes users text))) is)
+
+-- a policy that is refused decides, and one that is read leaves it to the evidence
+pub after-refused : (policy evidence : List ℕ) {number line : ℕ} → readPolicy policy ≡ refused number line → record { number = number; line = line } ≡ refusalOf policy evidence
+unfolding refusalOf refusalAfter
+after-refused policy evidence is = sym (ap (λ (r : Reading Said). refusalAfter r evidence) is)
+
+pub after-read : (policy evidence : List ℕ) {s : Said} → readPolicy policy ≡ read s → refusedOver (length (s .assigns)) (length (s .revokes)) (s .roles) (s .users) evidence ≡ refusalOf policy evidence
+unfolding refusalOf refusalAfter
+after-read policy evidence is = sym (ap (λ (r : Reading Said). refusalAfter r evidence) is)
+
+-- the evidence over a policy that is laid out
+pub over-laid : (s : Said) (bounded : Bounded s) {p : Policy} → p ≡ laidOut s → (evidence : List ℕ)
+    → refusedOver (p .counts .assigns) (p .counts .revokes) (rows (p .counts .roles) (p .roles)) (rows (p .counts .users) (p .users)) evidence
+    ≡ refusedOver (length (s .assigns)) (length (s .revokes)) (s .roles) (s .users) evidence
+unfolding countsOf
+over-laid s bounded {p} laid evidence =
+    ap₂ (λ (rs us : List Name). refusedOver (p .counts .assigns) (p .counts .revokes) rs us evidence) (roles-laid s bounded laid) (users-laid s bounded laid)
+    ∙ ap (λ (c : Counts). refusedOver (c .assigns) (c .revokes) (s .roles) (s .users) evidence) (counts-laid s bounded laid)
+
+-- ---- going from line to line
+
+module _ (text : List ℕ) (at left : ℕ) where
+  span-more : 1 < left → spanOf text at (left - 1) ≡ cond (ltb (at + indexOf 10 (drop at text)) (length text)) (spanOf text (at + indexOf 10 (drop at text) + 1) (left - 1 - 1)) noSpan
+  unfolding spanOf
+  span-more more =
+      let one : left - 1 ≡ suc (left - 1 - 1) = omega arith in
+      ap (spanOf text at) one
+
+  pub span-skip : {stop : ℕ} → 1 < left → Sought text at 10 stop → stop < length text → spanOf text at (left - 1) ≡ spanOf text (stop + 1) (left - 1 - 1)
+  span-skip {stop} more sought here =
+      span-more more
+      ∙ ap (λ (k : ℕ). cond (ltb k (length text)) (spanOf text (k + 1) (left - 1 - 1)) noSpan) (sym (sought .first))
+      ∙ ap (λ (b : Bool). cond b (spanOf text (stop + 1) (left - 1 - 1)) noSpan) (lt-ltb stop (length text) here)
+
+  pub span-none : {stop : ℕ} → 1 < left → Sought text at 10 stop → stop ≡ length text → spanOf text at (left - 1) ≡ noSpan
+  span-none {stop} more sought end =
+      span-more more
+      ∙ ap (λ (k : ℕ). cond (ltb k (length text)) (spanOf text (k + 1) (left - 1 - 1)) noSpan) (sym (sought .first))
+      ∙ ap (λ (b : Bool). cond b (spanOf text (stop + 1) (left - 1 - 1)) noSpan) (le-ltb stop (length text) (omega arith))
+
+  pub span-here : {stop : ℕ} → left ≤ 1 → at < length text → Sought text at 10 stop → record { found = true; from = at; to = stop } ≡ spanOf text at (left - 1)
+  unfolding spanOf
+  span-here {stop} last inside sought =
+      let none : left - 1 ≡ 0 = omega arith in
+      (λ i. record { found = true; from = at; to = sought .first i })
+      ∙ sym (ap (spanOf text at) none ∙ ap (λ (b : Bool). cond b (record { found = true; from = at; to = at + indexOf 10 (drop at text) }) noSpan) (lt-ltb at (length text) inside))
+
+  pub span-past : left ≤ 1 → length text ≤ at → noSpan ≡ spanOf text at (left - 1)
+  unfolding spanOf
+  span-past last outside =
+      let none : left - 1 ≡ 0 = omega arith in
+      sym (ap (spanOf text at) none ∙ ap (λ (b : Bool). cond b (record { found = true; from = at; to = at + indexOf 10 (drop at text) }) noSpan) (le-ltb at (length text) outside))
+
+-- ---- a span lies in its text
+
+pub record Inside (s : Span) (text : List ℕ) : Type 0 where
+  pub ordered : s .from ≤ s .to
+  pub within : s .to ≤ length text
+
+none-inside : (text : List ℕ) → Inside noSpan text
+unfolding noSpan
+none-inside text = record { ordered = zero-le; within = zero-le }
+
+index-most : (mark : ℕ) (s : List ℕ) → indexOf mark s ≤ length s
+unfolding indexOf indexAfter
+index-most mark [] = zero-le
+index-most mark (byte ∷ s) = go (eqb byte mark) (index-most mark s)
+  where
+    go : (t : Bool) → indexOf mark s ≤ length s → indexAfter t (indexOf mark s) ≤ suc (length s)
+    go true below = zero-le
+    go false below = omega arith
+
+span-inside : (text : List ℕ) (at skipped : ℕ) → Inside (spanOf text at skipped) text
+unfolding spanOf
+span-inside text at zero = go (ltb at (length text)) refl
+  where
+    go : (b : Bool) → ltb at (length text) ≡ b → Inside (cond b (record { found = true; from = at; to = at + indexOf 10 (drop at text) }) noSpan) text
+    go true e = record { ordered = omega arith; within = omega (arith, ltb-true at (length text) e, index-most 10 (drop at text), length-drop at text) }
+    go false e = none-inside text
+span-inside text at (suc skipped) = go (ltb (at + indexOf 10 (drop at text)) (length text)) (span-inside text (at + indexOf 10 (drop at text) + 1) skipped)
+  where
+    go : (b : Bool) → Inside (spanOf text (at + indexOf 10 (drop at text) + 1) skipped) text → Inside (cond b (spanOf text (at + indexOf 10 (drop at text) + 1) skipped) noSpan) text
+    go true below = below
+    go false below = none-inside text
+
+-- a line that is not found is nowhere
+span-lost : (text : List ℕ) (at skipped : ℕ) → spanOf text at skipped .found ≡ false → spanOf text at skipped ≡ noSpan
+unfolding spanOf
+span-lost text at zero lost = go (ltb at (length text)) lost
+  where
+    go : (b : Bool) → cond b (record { found = true; from = at; to = at + indexOf 10 (drop at text) }) noSpan .found ≡ false → cond b (record { found = true; from = at; to = at + indexOf 10 (drop at text) }) noSpan ≡ noSpan
+    go true e = absurd (true≢false e)
+    go false e = refl
+span-lost text at (suc skipped) lost = go (ltb (at + indexOf 10 (drop at text)) (length text)) lost (span-lost text (at + indexOf 10 (drop at text) + 1) skipped)
+  where
+    go : (b : Bool) → cond b (spanOf text (at + indexOf 10 (drop at text) + 1) skipped) noSpan .found ≡ false
+        → (spanOf text (at + indexOf 10 (drop at text) + 1) skipped .found ≡ false → spanOf text (at + indexOf 10 (drop at text) + 1) skipped ≡ noSpan)
+        → cond b (spanOf text (at + indexOf 10 (drop at text) + 1) skipped) noSpan ≡ noSpan
+    go true e below = below e
+    go false e below = refl
+
+-- ---- the bad line's place
+
+-- of a refusal in the evidence, and of one in the policy
+span-evidence : (policy evidence : List ℕ) (r : Refusal) → leb 14 (r .number) ≡ true → Inside (badSpan policy evidence r) evidence
+unfolding badSpan
+span-evidence policy evidence r high = go (eqb (r .line) 0)
+  where
+    go : (b : Bool) → Inside (cond b noSpan (cond (ltb (r .number) 14) (spanOf policy 0 (r .line - 1)) (spanOf evidence 0 (r .line - 1)))) evidence
+    go true = none-inside evidence
+    go false = rw (le-ltb (r .number) 14 (leb-true 14 (r .number) high)) (span-inside evidence 0 (r .line - 1))
+
+span-policy : (policy evidence : List ℕ) (r : Refusal) → (badSpan policy evidence r .found && leb 14 (r .number)) ≡ false → Inside (badSpan policy evidence r) policy
+unfolding badSpan
+span-policy policy evidence r low = go (eqb (r .line) 0) (ltb (r .number) 14) refl low
+  where
+    go : (b d : Bool) → ltb (r .number) 14 ≡ d → (cond b noSpan (cond d (spanOf policy 0 (r .line - 1)) (spanOf evidence 0 (r .line - 1))) .found && leb 14 (r .number)) ≡ false
+        → Inside (cond b noSpan (cond d (spanOf policy 0 (r .line - 1)) (spanOf evidence 0 (r .line - 1)))) policy
+    go true d e h = none-inside policy
+    go false true e h = span-inside policy 0 (r .line - 1)
+    go false false e h =
+        let high : leb 14 (r .number) ≡ true = le-leb 14 (r .number) (ltb-false (r .number) 14 e) in
+        let lost = sym (and-true (spanOf evidence 0 (r .line - 1) .found)) ∙ ap (λ (x : Bool). spanOf evidence 0 (r .line - 1) .found && x) (sym high) ∙ h in
+        subst⁻¹ (λ (x : Span). Inside x policy) (span-lost evidence 0 (r .line - 1) lost) (none-inside policy)
+
+pub bad-none : (policy evidence : List ℕ) (r : Refusal) → r .line ≡ 0 → noSpan ≡ badSpan policy evidence r
+unfolding badSpan
+bad-none policy evidence r none = rw (eq-eqb (r .line) 0 none)
+
+pub bad-policy : (policy evidence : List ℕ) (r : Refusal) → (r .line ≡ 0 → ⊥) → r .number < 14 → spanOf policy 0 (r .line - 1) ≡ badSpan policy evidence r
+unfolding badSpan
+bad-policy policy evidence r some low = rw (ne-eqb (r .line) 0 some, lt-ltb (r .number) 14 low)
+
+pub bad-evidence : (policy evidence : List ℕ) (r : Refusal) → (r .line ≡ 0 → ⊥) → 14 ≤ r .number → spanOf evidence 0 (r .line - 1) ≡ badSpan policy evidence r
+unfolding badSpan
+bad-evidence policy evidence r some high = rw (ne-eqb (r .line) 0 some, le-ltb (r .number) 14 high)
+
+pub place-told : (policy evidence : List ℕ) {r : Refusal} {s : Span} → r ≡ refusalOf policy evidence → s ≡ badSpan policy evidence r
+    → record { evidence = s .found && leb 14 (r .number); from = s .from; to = s .to } ≡ badPlace policy evidence
+unfolding badPlace
+place-told policy evidence {r} {s} is span =
+    let same = span ∙ ap (badSpan policy evidence) is in
+    λ i. record { evidence = same i .found && leb 14 (is i .number); from = same i .from; to = same i .to }
+
+-- where the place is in the evidence, and where in the policy
+pub evidence-inside : (policy evidence : List ℕ) {place : BadPlace} → place ≡ badPlace policy evidence → place .evidence ≡ true → (place .from ≤ place .to) × (place .to ≤ length evidence)
+unfolding badPlace
+evidence-inside policy evidence {place} is there =
+    let r = refusalOf policy evidence in
+    let here = span-evidence policy evidence r (and-eq-true-iff (badSpan policy evidence r .found) (leb 14 (r .number)) .0 (sym (ap (λ (q : BadPlace). q .evidence) is) ∙ there) .1) in
+    (omega (arith, ap (λ (q : BadPlace). q .from) is, ap (λ (q : BadPlace). q .to) is, here .ordered), omega (arith, ap (λ (q : BadPlace). q .to) is, here .within))
+
+pub policy-inside : (policy evidence : List ℕ) {place : BadPlace} → place ≡ badPlace policy evidence → place .evidence ≡ false → (place .from ≤ place .to) × (place .to ≤ length policy)
+unfolding badPlace
+policy-inside policy evidence {place} is there =
+    let here = span-policy policy evidence (refusalOf policy evidence) (sym (ap (λ (q : BadPlace). q .evidence) is) ∙ there) in
+    (omega (arith, ap (λ (q : BadPlace). q .from) is, ap (λ (q : BadPlace). q .to) is, here .ordered), omega (arith, ap (λ (q : BadPlace). q .to) is, here .within))
+
+pub line-evidence : (policy evidence : List ℕ) {place : BadPlace} → place ≡ badPlace policy evidence → place .evidence ≡ true → part evidence (place .from) (place .to) ≡ badLine policy evidence
+unfolding badLine
+line-evidence policy evidence {place} is there =
+    (λ i. part evidence (is i .from) (is i .to))
+    ∙ sym (ap (λ (b : Bool). cond b (part evidence (badPlace policy evidence .from) (badPlace policy evidence .to)) (part policy (badPlace policy evidence .from) (badPlace policy evidence .to))) (sym (ap (λ (q : BadPlace). q .evidence) is) ∙ there))
+
+pub line-policy : (policy evidence : List ℕ) {place : BadPlace} → place ≡ badPlace policy evidence → place .evidence ≡ false → part policy (place .from) (place .to) ≡ badLine policy evidence
+unfolding badLine
+line-policy policy evidence {place} is there =
+    (λ i. part policy (is i .from) (is i .to))
+    ∙ sym (ap (λ (b : Bool). cond b (part evidence (badPlace policy evidence .from) (badPlace policy evidence .to)) (part policy (badPlace policy evidence .from) (badPlace policy evidence .to))) (sym (ap (λ (q : BadPlace). q .evidence) is) ∙ there))

@@ -1,0 +1,24 @@
+-- `end_line` is judged by its word and the header above.
+use borrow.Author.Needs.{needs}
+use Rattle.traces.specs.TraceLines.{end-judged}
+use Rattle.traces.proofs.end_line.Statement.{statement}
+use Rattle.traces.proofs.end_line.Tie as tie
+
+slice-aggregate-same : tie.Need-slice-aggregate-same
+slice-aggregate-same c = search needs
+
+same-requires : tie.Need-same-requires
+same-requires c κs = search needs
+
+turn-requires : tie.Need-turn-requires
+turn-requires c κs = search needs
+
+answer-requires : tie.Need-answer-requires
+answer-requires c κs = search needs
+
+returns : tie.Need-returns
+returns c = λ assigns revokes users. end-judged _ assigns revokes users _ (c .before .before .same .ensures) (c .before .turn .ensures) (c .answer .ensures)
+
+pub end-line-spec : {M : Type 1} → statement M
+end-line-spec =
+    tie.close (tie.spec slice-aggregate-same same-requires turn-requires answer-requires returns)

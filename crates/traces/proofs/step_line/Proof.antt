@@ -1,0 +1,81 @@
+-- `step_line` is judged by its word, its names and its number.
+use borrow.Author.Needs.{needs}
+use mathlib.Core.Path.{ap, _∙_}
+use Rattle.traces.specs.TraceLines.{step-judged}
+use Rattle.fields.specs.Fields.{placed}
+use Rattle.text.specs.Names.{placeOf, rows, rows-length}
+use Rattle.traces.proofs.step_line.Statement.{statement}
+use Rattle.traces.proofs.step_line.Tie as tie
+
+slice-aggregate-same : tie.Need-slice-aggregate-same
+slice-aggregate-same c = search needs
+
+same-requires : tie.Need-same-requires
+same-requires c κs = search needs
+
+slice-aggregate-same-2 : tie.Need-slice-aggregate-same-2
+slice-aggregate-same-2 c = search needs
+
+same-requires-2 : tie.Need-same-requires-2
+same-requires-2 c κs = search needs
+
+pack-requires : tie.Need-pack-requires
+pack-requires c κs = search needs
+
+find-requires : tie.Need-find-requires
+find-requires c κs = search needs
+
+pack-requires-2 : tie.Need-pack-requires-2
+pack-requires-2 c κs = search needs
+
+find-requires-2 : tie.Need-find-requires-2
+find-requires-2 c κs = search needs
+
+number-requires : tie.Need-number-requires
+number-requires c κs = search needs
+
+is-name-requires : tie.Need-is-name-requires
+is-name-requires c κs = search needs
+
+is-name-requires-2 : tie.Need-is-name-requires-2
+is-name-requires-2 c κs = search needs
+
+place-of-requires : tie.Need-place-of-requires
+place-of-requires c κs = search needs
+
+step-of-requires : tie.Need-step-of-requires
+step-of-requires c κs = search needs
+
+turn-requires : tie.Need-turn-requires
+turn-requires c κs = search needs
+
+answer-requires : tie.Need-answer-requires
+answer-requires c κs = search needs
+
+returns : tie.Need-returns
+unfolding placed
+returns c =
+    let a = c .before .before .before .before .before .before .before .before .before .before .before .before .before .before .before .before .before .before .before .before .before .before .args in
+    let places = placeOf (rows (a .c .users) (a .users .now)) in
+    step-judged _ _ _ _ (a .word .now) (a .actor .now) (a .number .now) (a .user .now) (c .before .before .before .before .before .before .before .before .before .before .before .before .before .before .before .same .ensures) (c .before .before .before .before .before .before .before .before .before .before .before .before .before .same2 .ensures) (rows-length _ _) (c .before .before .before .before .before .before .before .before .before .before .before .find .ensures ∙ ap places (c .before .before .before .before .before .before .before .before .before .before .before .before .pack .ensures)) (c .before .before .before .before .before .before .before .before .before .find2 .ensures ∙ ap places (c .before .before .before .before .before .before .before .before .before .before .pack2 .ensures)) (c .before .before .before .before .before .before .before .before .number .ensures) (c .before .before .before .before .before .before .before .is-name .ensures) (c .before .before .before .before .before .before .is-name2 .ensures) (c .before .turn .ensures) (c .before .before .before .place-of .ensures) (c .before .before .step-of .ensures) (c .answer .ensures)
+
+pub step-line-spec : {M : Type 1} → statement M
+step-line-spec =
+    tie.close
+    (tie.spec
+    slice-aggregate-same
+    same-requires
+    slice-aggregate-same-2
+    same-requires-2
+    pack-requires
+    find-requires
+    pack-requires-2
+    find-requires-2
+    number-requires
+    is-name-requires
+    is-name-requires-2
+    place-of-requires
+    step-of-requires
+    turn-requires
+    answer-requires
+    returns)

@@ -1,0 +1,5 @@
+-- What a trace text is read into, and which line is refused.
+pub mod TraceLines
+pub mod TraceText
+pub mod TraceReached
+pub mod Exact

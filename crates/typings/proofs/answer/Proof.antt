@@ -1,0 +1,13 @@
+-- `answer` goes by the number.
+use Rattle.typings.specs.TypingLines.{answer-good, answer-bad}
+use Rattle.typings.proofs.answer.Statement.{statement}
+use Rattle.typings.proofs.answer.Tie as tie
+
+returns : tie.Need-returns
+returns c = answer-good _ _ (c .if1 .taken)
+
+returns-2 : tie.Need-returns-2
+returns-2 c = answer-bad _ _ (c .if1 .left)
+
+pub answer-spec : {M : Type 1} → statement M
+answer-spec = tie.close (tie.spec returns returns-2)

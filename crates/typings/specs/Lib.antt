@@ -1,0 +1,7 @@
+-- What a typing text is read into, and which line is refused.
+pub mod TypingLines
+pub mod TypingText
+pub mod TypingReached
+pub mod Exact
+pub mod TypingTold
+pub mod Worked
