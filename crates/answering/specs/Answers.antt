@@ -3,8 +3,8 @@ use Prim.Native.Nat.{ℕ, suc}
 use mathlib.Core.Bool.{Bool, cond}
 use mathlib.Core.List.{List, [], _∷_}
 use lib.ListN.{getD}
-use Rattle.text.specs.declared.Name.{Name}
-use Rattle.text.specs.Names.{packed}
+use Rattle.tables.specs.declared.Name.{Name}
+use Rattle.tables.specs.Names.{packed}
 use Rattle.model.specs.declared.Typing.{Typing as Table}
 use Rattle.reading.specs.Texts.{Reading, read, refused}
 use Rattle.lines.specs.declared.Counts.{Counts}

@@ -6,8 +6,8 @@ use mathlib.Core.Path.{_≡_, refl, sym, ap, ap₂, subst, _∙_}
 use lib.ListN.{drop, List·getD-eq-default}
 use lib.Seq.{drop-drop}
 use native.Mathlib.Omega.{arith}
-use Rattle.text.specs.declared.Name.{Name}
-use Rattle.text.specs.Names.{packed, rowOf, rows, rows-length}
+use Rattle.tables.specs.declared.Name.{Name}
+use Rattle.tables.specs.Names.{packed, rowOf, rows, rows-length}
 use Rattle.model.specs.declared.Typing.{Typing as Table}
 use Rattle.reading.specs.Texts.{Reading, read, refused}
 use Rattle.lines.specs.declared.Counts.{Counts}

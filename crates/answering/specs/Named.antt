@@ -1,8 +1,8 @@
 -- The answer to two texts beside the name of the user of whom it speaks.
 use Prim.Native.Nat.{ℕ}
 use mathlib.Core.List.{List, []}
-use Rattle.text.specs.declared.Name.{Name}
-use Rattle.text.specs.Names.{packed}
+use Rattle.tables.specs.declared.Name.{Name}
+use Rattle.tables.specs.Names.{packed}
 use Rattle.reading.specs.Policy.{readPolicy}
 use Rattle.answering.specs.declared.Answer.{Answer}
 use Rattle.answering.specs.declared.NamedAnswer.{NamedAnswer}

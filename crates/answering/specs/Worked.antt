@@ -11,7 +11,7 @@ use Rattle.model.specs.Meaning.{meaning}
 use Rattle.bytes.specs.Bytes.{indexOf}
 use Rattle.model.specs.Policy.{revoked}
 use Rattle.text.specs.Forms.{bytes, isNumber, decimal, numberOf}
-use Rattle.text.specs.Names.{sameName}
+use Rattle.tables.specs.Names.{sameName}
 use Rattle.reading.specs.Policy.{policyOf, padded}
 use Rattle.reading.specs.Worked.{reading}
 use Rattle.fields.specs.Turns.{turnOf}

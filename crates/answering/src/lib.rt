@@ -2,7 +2,7 @@
 ghost use mathlib.Core.Path.{_≡_};
 ghost use Prim.Native.Nat.{_*_, _≤_};
 ghost use lib.ListN.{length};
-ghost use Rattle.text.specs.Names.{rows};
+ghost use Rattle.tables.specs.Names.{rows};
 ghost use Rattle.answering.specs.Answers.{judgedAnswer, traceAnswer, answerOf, nameAt};
 ghost use Rattle.answering.specs.Named.{namedOver, unnamedAnswer, namedAnswer};
 use judging::Part;
@@ -16,7 +16,7 @@ use reading::policy::has_header;
 use reading::policy::read_policy;
 use running::TraceVerdict;
 use running::run_trace;
-use text::Name;
+use tables::Name;
 use typings::read_typing;
 
 // The answer to two texts.
@@ -55,7 +55,7 @@ fn judged(verdict: TypingVerdict, c: Counts, t: Typing) -> Answer
 fn unnamed(answer: Answer) -> NamedAnswer
     ensures { λ r. ⌜ r ≡ unnamedAnswer answer ⌝ }
 {
-    let name = text::pack(b"");
+    let name = tables::pack(b"");
     NamedAnswer { answer, name }
 }
 
@@ -65,9 +65,9 @@ fn name_at(users: &[u64], count: usize, user: usize) -> Name
     ensures { λ r. ⌜ r ≡ nameAt (rows count (now (users .entry))) user ⌝ }
 {
     if user < count {
-        return text::row(users, user);
+        return tables::row(users, user);
     }
-    text::pack(b"")
+    tables::pack(b"")
 }
 
 // The answer to a trace, by its verdict, over the policy's users.

@@ -8,7 +8,7 @@ use mathlib.Core.Path.{_≡_, refl, ap}
 use lib.Dec.{leb, lit≤}
 use lib.ListN.{length, take, drop, length-append}
 use native.Mathlib.Omega.{arith}
-use Rattle.text.specs.declared.Name.{Name}
+use Rattle.tables.specs.declared.Name.{Name}
 use Rattle.places.specs.Place.{badPlace, badLine}
 use Rattle.judging.specs.declared.Part.{Part}
 use Rattle.writing.specs.Spelling.{decimal-length, spelled-length}

@@ -9,7 +9,7 @@ use Rattle.model.specs.declared.Typing.{Typing as Table}
 use Rattle.model.specs.Policy.{Policy, joint}
 use Rattle.model.specs.Typing.{Accepted}
 use Rattle.model.specs.Meaning.{meaning}
-use Rattle.text.specs.declared.Name.{Name}
+use Rattle.tables.specs.declared.Name.{Name}
 use Rattle.text.specs.Pieces.{sameBytes}
 use Rattle.reading.specs.Texts.{read}
 use Rattle.reading.specs.Policy.{Said, policyOf, countsOf, readPolicy}

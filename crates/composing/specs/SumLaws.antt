@@ -8,7 +8,7 @@ use native.Mathlib.Omega.{arith}
 use Rattle.roles.specs.Sets.{unionOf}
 use Rattle.roles.specs.Members.{union-comm, union-assoc, union-self}
 use Rattle.model.specs.declared.Typing.{Typing as Table}
-use Rattle.text.specs.declared.Name.{Name}
+use Rattle.tables.specs.declared.Name.{Name}
 use Rattle.reading.specs.Texts.{read}
 use Rattle.reading.specs.Policy.{Said, readPolicy}
 use Rattle.typings.specs.TypingText.{Typed, readTyping, tableOf}

@@ -13,7 +13,7 @@ use Rattle.sheets.specs.Members.{union-sized}
 use Rattle.model.specs.declared.Typing.{Typing as Table}
 use Rattle.model.specs.Typing.{sum}
 use Rattle.model.specs.Meaning.{meaning}
-use Rattle.text.specs.declared.Name.{Name}
+use Rattle.tables.specs.declared.Name.{Name}
 use Rattle.reading.specs.Texts.{read}
 use Rattle.reading.specs.Policy.{padded}
 use Rattle.typings.specs.TypingText.{Typed, readTyping, tableOf}

@@ -9,9 +9,9 @@ use lib.ListN.{length}
 use native.Mathlib.Omega.{arith}
 use Rattle.roles.specs.declared.RoleSet.{RoleSet}
 use Rattle.roles.specs.Sets.{emptySet, withOf}
-use Rattle.text.specs.declared.Name.{Name}
+use Rattle.tables.specs.declared.Name.{Name}
 use Rattle.text.specs.Forms.{every, isName, isSet, namesOf}
-use Rattle.text.specs.Names.{packed, placeOf, rows, rows-length}
+use Rattle.tables.specs.Names.{packed, placeOf, rows, rows-length}
 use Rattle.text.specs.Pieces.{repeated}
 use Rattle.fields.specs.declared.NameRead.{NameRead}
 use Rattle.fields.specs.declared.SetRead.{SetRead}

@@ -10,9 +10,9 @@ use native.Mathlib.Omega.{arith}
 use Rattle.roles.specs.declared.RoleSet.{RoleSet}
 use Rattle.roles.specs.Sets.{hasRole, emptySet, withOf}
 use Rattle.roles.specs.Members.{has-empty, has-with}
-use Rattle.text.specs.declared.Name.{Name}
+use Rattle.tables.specs.declared.Name.{Name}
 use Rattle.text.specs.Forms.{bytes, every, every-more, isName, isSet, namesOf}
-use Rattle.text.specs.Names.{packed, sameName, placeOf, packed-one-to-one, place-one-to-one}
+use Rattle.tables.specs.Names.{packed, sameName, placeOf, packed-one-to-one, place-one-to-one}
 use Rattle.text.specs.Pieces.{split, sameBytes, among, repeated, same-equal, equal-same, Sought, sought-none, sought-some, sought-start, part-rest}
 use Rattle.text.specs.Repeats.{still-single, now-repeated, repeated-start}
 use Rattle.fields.specs.declared.SetRead.{SetRead}

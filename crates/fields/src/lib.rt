@@ -4,7 +4,7 @@ ghost use Prim.Native.Nat.{_*_, _≤_, max};
 ghost use lib.ListN.{length};
 ghost use mathlib.Core.Bool.{true, false};
 ghost use Rattle.text.specs.Forms.{bytes, every, isName};
-ghost use Rattle.text.specs.Names.{rows};
+ghost use Rattle.tables.specs.Names.{rows};
 ghost use Rattle.text.specs.Pieces.{split, sameBytes};
 ghost use Rattle.fields.specs.Fields.{nameRead, setRead, areSet, malformedSet, undeclaredSet};
 
@@ -36,7 +36,7 @@ pub fn read_name(field: &[u8], table: &[u64], count: usize) -> NameRead
     requires { ⌜ 4 * count ≤ length (now table) ⌝ }
     ensures { λ r. ⌜ r ≡ nameRead (rows count (now (table .entry))) (now (field .entry)) ⌝ }
 {
-    let place = text::find(table, count, text::pack(field));
+    let place = tables::find(table, count, tables::pack(field));
     if !text::is_name(field) {
         return NameRead { fault: 2, place };
     }

@@ -8,9 +8,9 @@ use native.Mathlib.Omega.{arith}
 use lib.Dec.{leb, ltb, eqb}
 use lib.ListN.{length}
 use Rattle.roles.specs.Sets.{emptySet}
-use Rattle.text.specs.declared.Name.{Name}
+use Rattle.tables.specs.declared.Name.{Name}
 use Rattle.text.specs.Forms.{bytes, isName, isSet, isLabel}
-use Rattle.text.specs.Names.{packed}
+use Rattle.tables.specs.Names.{packed}
 use Rattle.text.specs.Pieces.{split, sameBytes, split-piece}
 use Rattle.fields.specs.declared.NameRead.{NameRead}
 use Rattle.fields.specs.declared.SetRead.{SetRead}

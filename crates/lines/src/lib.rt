@@ -3,8 +3,8 @@ ghost use mathlib.Core.Path.{_≡_};
 ghost use Prim.Native.Nat.{_*_, _≤_};
 ghost use lib.ListN.{length};
 ghost use mathlib.Core.List.{List};
-ghost use Rattle.text.specs.declared.Name.{Name};
-ghost use Rattle.text.specs.Names.{rows};
+ghost use Rattle.tables.specs.declared.Name.{Name};
+ghost use Rattle.tables.specs.Names.{rows};
 ghost use Rattle.lines.specs.Lines.{Line, oneField, twoFields, threeFields, inOrder, inTurn, judged, policyLine};
 use fields::read_name;
 use fields::read_set;
@@ -12,7 +12,7 @@ use fields::worse;
 use model::Assign;
 use model::Revoke;
 use roles::RoleSet;
-use text::Name;
+use tables::Name;
 
 // How far a policy was read: the kind of the last line, 0 before the header, and how many of each kind there are.
 pub struct Counts {
@@ -78,9 +78,9 @@ fn role_line(name: &[u8], roles: &[u64], c: Counts) -> PolicyLine
     requires { ⌜ 4 * c .roles ≤ length (now roles) ⌝ }
     ensures { λ r. ⌜ ((users : List Name) → r ≡ judged c (rows (c .roles) (now (roles .entry))) users (Line.role (now (name .entry)))) ⌝ }
 {
-    let packed = text::pack(name);
+    let packed = tables::pack(name);
     let count = c.roles;
-    let place = text::find(roles, count, packed);
+    let place = tables::find(roles, count, packed);
     let formed = in_order(c.stage, 1) & text::is_name(name) & (count <= place);
     in_turn(formed, count < 128, true, Entry::Role(packed))
 }
@@ -90,9 +90,9 @@ fn user_line(name: &[u8], clearance: &[u8], users: &[u64], c: Counts) -> PolicyL
     requires { ⌜ 4 * c .users ≤ length (now users) ⌝ }
     ensures { λ r. ⌜ ((roles : List Name) → r ≡ judged c roles (rows (c .users) (now (users .entry))) (Line.user (now (name .entry)) (now (clearance .entry)))) ⌝ }
 {
-    let packed = text::pack(name);
+    let packed = tables::pack(name);
     let count = c.users;
-    let place = text::find(users, count, packed);
+    let place = tables::find(users, count, packed);
     let formed = in_order(c.stage, 2)
         & text::is_name(name)
         & text::is_label(clearance)

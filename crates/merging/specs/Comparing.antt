@@ -8,7 +8,7 @@ use lib.ListN.{length, getD, take, drop, length-drop}
 use lib.Seq.{slice, slice-empty, slice-cons}
 use native.Mathlib.Numerals.{add-one}
 use native.Mathlib.Omega.{arith}
-use Rattle.text.specs.Names.{sameName, rowOf, rows}
+use Rattle.tables.specs.Names.{sameName, rowOf, rows}
 use Rattle.merging.specs.Directory.{sameLists}
 
 -- After i turns the answer for so many first elements is the answer for those still to come.

@@ -3,7 +3,7 @@ use mathlib.Core.Bool.{Bool, true, false, not, cond, _&&_}
 use mathlib.Core.List.{List, [], _∷_}
 use Rattle.roles.specs.Sets.{sameSet}
 use Rattle.model.specs.declared.Person.{Person}
-use Rattle.text.specs.Names.{sameName, rows}
+use Rattle.tables.specs.Names.{sameName, rows}
 use Rattle.reading.specs.declared.policy.Policy.{Policy}
 use Rattle.reading.specs.Policy.{Said}
 use Rattle.judging.specs.Verdict.{subjectIn}

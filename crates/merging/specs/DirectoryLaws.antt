@@ -11,8 +11,8 @@ use native.Mathlib.Omega.{arith}
 use Rattle.roles.specs.Sets.{sameSet}
 use Rattle.roles.specs.Members.{same-equal, equal-same}
 use Rattle.model.specs.declared.Person.{Person}
-use Rattle.text.specs.declared.Name.{Name}
-use Rattle.text.specs.Names.{sameName, placeOf, rows, rows-length, place-one-to-one}
+use Rattle.tables.specs.declared.Name.{Name}
+use Rattle.tables.specs.Names.{sameName, placeOf, rows, rows-length, place-one-to-one}
 use Rattle.reading.specs.declared.policy.Policy.{Policy}
 use Rattle.reading.specs.Policy.{Said, laidOut}
 use Rattle.reading.specs.Reached.{Bounded}

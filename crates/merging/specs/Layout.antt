@@ -5,8 +5,8 @@ use mathlib.Core.Path.{_≡_, sym, ap, _∙_}
 use lib.ListN.{length}
 use native.Mathlib.Omega.{arith}
 use Rattle.model.specs.declared.Typing.{Typing as Table}
-use Rattle.text.specs.declared.Name.{Name}
-use Rattle.text.specs.Names.{rows}
+use Rattle.tables.specs.declared.Name.{Name}
+use Rattle.tables.specs.Names.{rows}
 use Rattle.lines.specs.declared.Counts.{Counts}
 use Rattle.reading.specs.declared.policy.Policy.{Policy}
 use Rattle.reading.specs.Texts.{refused}

@@ -7,8 +7,8 @@ use borrow.Author.Tests.{le-leb, lt-leb}
 use lib.ListN.{length}
 use native.Mathlib.Omega.{arith}
 use Rattle.model.specs.declared.Typing.{Typing as Table}
-use Rattle.text.specs.declared.Name.{Name}
-use Rattle.text.specs.Names.{rows}
+use Rattle.tables.specs.declared.Name.{Name}
+use Rattle.tables.specs.Names.{rows}
 use Rattle.reading.specs.declared.policy.Policy.{Policy}
 use Rattle.reading.specs.Texts.{Reading, read, refused}
 use Rattle.reading.specs.Policy.{Said}

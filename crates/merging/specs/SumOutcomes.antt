@@ -3,7 +3,7 @@ use Prim.Native.Nat.{ℕ}
 use mathlib.Core.List.{List}
 use mathlib.Core.Path.{_≡_, sym, ap, ap₂, _∙_}
 use Rattle.model.specs.declared.Typing.{Typing as Table}
-use Rattle.text.specs.Names.{rows}
+use Rattle.tables.specs.Names.{rows}
 use Rattle.reading.specs.declared.policy.Policy.{Policy}
 use Rattle.reading.specs.Texts.{read, refused}
 use Rattle.reading.specs.Policy.{Said, readPolicy}

@@ -1,7 +1,7 @@
 // A typing written where its text fits, and nothing where it does not.
 ghost use Prim.Native.Nat.{_*_, _≤_};
 ghost use lib.ListN.{length};
-ghost use Rattle.text.specs.Names.{rows};
+ghost use Rattle.tables.specs.Names.{rows};
 ghost use Rattle.writing.specs.TypingText.{typingText};
 ghost use Rattle.merging.specs.Outcome.{Meets, fitting};
 use model::Typing;

@@ -8,7 +8,7 @@ use lib.Dec.{ltb, leb, eqb}
 use lib.ListN.{length, drop, getD}
 use native.Mathlib.Omega.{arith}
 use Rattle.bytes.specs.Bytes.{indexOf}
-use Rattle.text.specs.declared.Name.{Name}
+use Rattle.tables.specs.declared.Name.{Name}
 use Rattle.text.specs.Forms.{bytes}
 use Rattle.text.specs.Pieces.{split, part, sameBytes, Sought}
 use Rattle.reading.specs.Texts.{Reading, read, refused}

@@ -2,7 +2,7 @@
 ghost use mathlib.Core.Path.{_≡_};
 ghost use Prim.Native.Nat.{_*_, _-_, _≤_};
 ghost use lib.ListN.{length};
-ghost use Rattle.text.specs.Names.{rows};
+ghost use Rattle.tables.specs.Names.{rows};
 ghost use Rattle.places.specs.Place.{isTyping, refusedOver, refusalOf, noSpan, spanOf, badSpan, badPlace, badLine};
 use lines::Counts;
 use reading::policy::read_policy;

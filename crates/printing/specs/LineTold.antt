@@ -8,7 +8,7 @@ use lib.Dec.{leb}
 use lib.ListN.{length, take}
 use lib.Seq.{length-take-le}
 use native.Mathlib.Omega.{arith}
-use Rattle.text.specs.declared.Name.{Name}
+use Rattle.tables.specs.declared.Name.{Name}
 use Rattle.reading.specs.Policy.{readPolicy}
 use Rattle.writing.specs.Written.{put}
 use Rattle.writing.specs.Buffers.{put-length, put-before}

@@ -9,8 +9,8 @@ use Rattle.model.specs.declared.Assign.{Assign}
 use Rattle.model.specs.declared.Revoke.{Revoke}
 use Rattle.model.specs.declared.Person.{Person}
 use Rattle.model.specs.Policy.{Policy as Rules, State, nobody, person, granted}
-use Rattle.text.specs.declared.Name.{Name}
-use Rattle.text.specs.Names.{wordsOf}
+use Rattle.tables.specs.declared.Name.{Name}
+use Rattle.tables.specs.Names.{wordsOf}
 use Rattle.lines.specs.declared.Counts.{Counts}
 use Rattle.lines.specs.declared.Entry.{Entry}
 use Rattle.lines.specs.declared.PolicyLine.{PolicyLine}

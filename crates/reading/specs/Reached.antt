@@ -14,8 +14,8 @@ use Rattle.model.specs.declared.Assign.{Assign}
 use Rattle.model.specs.declared.Revoke.{Revoke}
 use Rattle.model.specs.declared.Person.{Person}
 use Rattle.model.specs.Policy.{State, nobody, person, holding, granted}
-use Rattle.text.specs.declared.Name.{Name}
-use Rattle.text.specs.Names.{wordsOf, rows, rows-laid, stored}
+use Rattle.tables.specs.declared.Name.{Name}
+use Rattle.tables.specs.Names.{wordsOf, rows, rows-laid, stored}
 use Rattle.text.specs.Pieces.{part, Sought}
 use Rattle.lines.specs.declared.Counts.{Counts}
 use Rattle.lines.specs.declared.Entry.{Entry}

@@ -4,8 +4,8 @@ use mathlib.Core.List.{List}
 use mathlib.Core.Path.{_≡_, refl, sym, ap, ap₂, subst, _∙_}
 use lib.ListN.{length}
 use native.Mathlib.Omega.{arith}
-use Rattle.text.specs.declared.Name.{Name}
-use Rattle.text.specs.Names.{wordsOf, rows}
+use Rattle.tables.specs.declared.Name.{Name}
+use Rattle.tables.specs.Names.{wordsOf, rows}
 use Rattle.lines.specs.declared.Counts.{Counts}
 use Rattle.reading.specs.declared.policy.Policy.{Policy}
 use Rattle.reading.specs.Texts.{Reading, read, refused}

@@ -7,7 +7,7 @@ use Rattle.roles.specs.declared.RoleSet.{RoleSet}
 use Rattle.roles.specs.Sets.{bit, emptySet, hasRole, singleOf, unionOf, withOf}
 use Rattle.model.specs.Policy.{nobody, person, holding, granted}
 use Rattle.text.specs.Forms.{bytes, every, between, nameByte, isName, namesOf, isSet, isLabel}
-use Rattle.text.specs.Names.{value, packed, sameName, placeOf}
+use Rattle.tables.specs.Names.{value, packed, sameName, placeOf}
 use Rattle.text.specs.Pieces.{onto, split, sameBytes, among, repeated}
 use Rattle.reading.specs.Texts.{Reading, read, refused, closing, onward, readLines, readText}
 use Rattle.fields.specs.Fields.{placed, isDeclared, allDeclared, rolesFrom, rolesOf}

@@ -111,13 +111,13 @@ pub fn read_policy(text: &[u8]) -> Policy
                 c.stage = 1;
             }
             Entry::Role(name) => {
-                text::store(&mut p.roles, c.roles, name);
+                tables::store(&mut p.roles, c.roles, name);
                 c.roles += 1;
                 c.stage = 1;
             }
             Entry::User(name, clearance) => {
                 let user = c.users;
-                text::store(&mut p.users, user, name);
+                tables::store(&mut p.users, user, name);
                 p.persons[user] = Person {
                     clearance,
                     roles: RoleSet::empty(),

@@ -11,9 +11,9 @@ use Rattle.roles.specs.Sets.{emptySet}
 use Rattle.model.specs.Policy.{L}
 use Rattle.model.specs.Typing.{Typing}
 use Rattle.model.specs.Meaning.{meaning}
-use Rattle.text.specs.declared.Name.{Name}
+use Rattle.tables.specs.declared.Name.{Name}
 use Rattle.text.specs.Forms.{bytes, every}
-use Rattle.text.specs.Names.{placeOf}
+use Rattle.tables.specs.Names.{placeOf}
 use Rattle.text.specs.Pieces.{split}
 use Rattle.reading.specs.Texts.{Judged, goes, ends, read, readLines, lines-next, onward-goes, onward-ends, closing-none, text-fits}
 use Rattle.steps.specs.Places.{at-listed}

@@ -10,7 +10,7 @@ use native.Mathlib.Numerals.{add-one}
 use native.Mathlib.Omega.{arith}
 use Rattle.roles.specs.declared.RoleSet.{RoleSet}
 use Rattle.roles.specs.Members.{_∈_, Sized}
-use Rattle.text.specs.declared.Name.{Name}
+use Rattle.tables.specs.declared.Name.{Name}
 use Rattle.text.specs.Forms.{namesOf}
 use Rattle.text.specs.Pieces.{split}
 use Rattle.reading.specs.Texts.{Judged, goes, ends, bad, read}

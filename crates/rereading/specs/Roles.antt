@@ -7,7 +7,7 @@ use mathlib.Core.Path.{_≡_, ap, _∙_}
 use Rattle.roles.specs.declared.RoleSet.{RoleSet}
 use Rattle.roles.specs.Sets.{emptySet, withOf}
 use Rattle.roles.specs.Members.{_∈_, with-cases, with-old, empty-none}
-use Rattle.text.specs.declared.Name.{Name}
+use Rattle.tables.specs.declared.Name.{Name}
 use Rattle.text.specs.Forms.{every}
 use Rattle.fields.specs.Fields.{placed, rolesFrom}
 

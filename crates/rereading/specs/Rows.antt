@@ -8,9 +8,9 @@ use lib.ListN.{length}
 use native.Mathlib.Numerals.{add-one}
 use native.Mathlib.Omega.{arith}
 use Rattle.roles.specs.declared.RoleSet.{RoleSet}
-use Rattle.text.specs.declared.Name.{Name}
+use Rattle.tables.specs.declared.Name.{Name}
 use Rattle.text.specs.Forms.{bytes, every, between, nameByte, isName, isLabel}
-use Rattle.text.specs.Names.{placeOf}
+use Rattle.tables.specs.Names.{placeOf}
 use Rattle.text.specs.Pieces.{split, onto, sameBytes}
 use Rattle.fields.specs.Fields.{placed}
 use Rattle.writing.specs.Written.{spelled}

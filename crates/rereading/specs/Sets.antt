@@ -10,7 +10,7 @@ use native.Mathlib.Omega.{arith}
 use Rattle.roles.specs.declared.RoleSet.{RoleSet}
 use Rattle.roles.specs.Sets.{hasRole, emptySet, withOf}
 use Rattle.roles.specs.Members.{_∈_, Sized, with-new, same-members, below as role-below}
-use Rattle.text.specs.declared.Name.{Name}
+use Rattle.tables.specs.declared.Name.{Name}
 use Rattle.text.specs.Forms.{every, isName, isSet, namesOf}
 use Rattle.text.specs.Pieces.{repeated}
 use Rattle.fields.specs.Fields.{placed, isDeclared, allDeclared, rolesFrom, rolesOf}

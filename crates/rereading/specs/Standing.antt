@@ -9,9 +9,9 @@ use native.Mathlib.Omega.{arith}
 use Rattle.roles.specs.declared.RoleSet.{RoleSet}
 use Rattle.roles.specs.Sets.{hasRole}
 use Rattle.roles.specs.Members.{_∈_}
-use Rattle.text.specs.declared.Name.{Name}
+use Rattle.tables.specs.declared.Name.{Name}
 use Rattle.text.specs.Forms.{every, isName}
-use Rattle.text.specs.Names.{packed, placeOf}
+use Rattle.tables.specs.Names.{packed, placeOf}
 use Rattle.text.specs.Pieces.{sameBytes, among, repeated, same-equal}
 use Rattle.fields.specs.Fields.{placed}
 use Rattle.steps.specs.Places.{at-listed}

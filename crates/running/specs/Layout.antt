@@ -7,7 +7,7 @@ use lib.Seq.{take-at}
 use native.Mathlib.Omega.{arith}
 use Rattle.roles.specs.Sets.{emptySet}
 use Rattle.model.specs.Policy.{nobody}
-use Rattle.text.specs.Names.{rows}
+use Rattle.tables.specs.Names.{rows}
 use Rattle.reading.specs.declared.policy.Policy.{Policy}
 use Rattle.reading.specs.Policy.{Said, countsOf, padded, noAssign, noRevoke, laidWith, laidOut}
 use Rattle.reading.specs.Reached.{Bounded}

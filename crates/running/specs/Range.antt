@@ -7,7 +7,7 @@ use mathlib.Core.Path.{_≡_, refl, sym, ap, subst, _∙_}
 use lib.Dec.{eqb, leb}
 use lib.ListN.{length}
 use native.Mathlib.Omega.{arith}
-use Rattle.text.specs.declared.Name.{Name}
+use Rattle.tables.specs.declared.Name.{Name}
 use Rattle.text.specs.Forms.{isName, numberOf}
 use Rattle.text.specs.Pieces.{split}
 use Rattle.fields.specs.Fields.{placed, isDeclared}

@@ -12,7 +12,7 @@ use Rattle.model.specs.declared.Assign.{Assign}
 use Rattle.model.specs.declared.Revoke.{Revoke}
 use Rattle.model.specs.declared.Person.{Person}
 use Rattle.model.specs.Policy.{State}
-use Rattle.text.specs.Names.{rows, rows-length}
+use Rattle.tables.specs.Names.{rows, rows-length}
 use Rattle.text.specs.Pieces.{part, Sought}
 use Rattle.reading.specs.declared.policy.Policy.{Policy}
 use Rattle.reading.specs.Texts.{Judged, Reading, text-long}

@@ -1,6 +1,5 @@
--- How bytes fall into pieces, the form of each piece, and how names are packed and found.
+-- How bytes fall into pieces, the form of each piece, and eight bytes at a time.
 pub mod Pieces
 pub mod Repeats
 pub mod Forms
 pub mod Eights
-pub mod Names

@@ -5,7 +5,7 @@ use mathlib.Core.List.{List, [], _∷_, _++_}
 use mathlib.Core.Logic.{_↔_}
 use mathlib.Core.Path.{_≡_, refl, sym}
 use lib.ListN.{length}
-use Rattle.text.specs.declared.Name.{Name}
+use Rattle.tables.specs.declared.Name.{Name}
 use Rattle.text.specs.Pieces.{split}
 use Rattle.fields.specs.Turns.{turnOf}
 use Rattle.reading.specs.Texts.{read, refused}

@@ -11,7 +11,7 @@ use native.Mathlib.Omega.{arith}
 use Rattle.roles.specs.declared.RoleSet.{RoleSet}
 use Rattle.roles.specs.Sets.{emptySet}
 use Rattle.model.specs.declared.Typing.{Typing as Table}
-use Rattle.text.specs.declared.Name.{Name}
+use Rattle.tables.specs.declared.Name.{Name}
 use Rattle.text.specs.Forms.{bytes, isName, isLabel, isSet}
 use Rattle.text.specs.Pieces.{split, part, sameBytes, Sought}
 use Rattle.reading.specs.Texts.{Judged, goes, bad, ends, text-long}

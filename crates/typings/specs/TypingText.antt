@@ -6,7 +6,7 @@ use lib.ListN.{length}
 use Rattle.roles.specs.declared.RoleSet.{RoleSet}
 use Rattle.roles.specs.Sets.{emptySet}
 use Rattle.model.specs.declared.Typing.{Typing as Table}
-use Rattle.text.specs.declared.Name.{Name}
+use Rattle.tables.specs.declared.Name.{Name}
 use Rattle.reading.specs.Texts.{Judged, goes, ends, bad, Reading, read, refused, readText}
 use Rattle.reading.specs.Policy.{padded}
 use Rattle.typings.specs.declared.TypingEntry.{TypingEntry}

@@ -4,9 +4,9 @@ use mathlib.Core.Bool.{Bool, true, false}
 use mathlib.Core.List.{List, [], _∷_, _++_, map}
 use mathlib.Core.Path.{_≡_, refl}
 use Rattle.roles.specs.declared.RoleSet.{RoleSet}
-use Rattle.text.specs.declared.Name.{Name}
+use Rattle.tables.specs.declared.Name.{Name}
 use Rattle.text.specs.Forms.{bytes}
-use Rattle.text.specs.Names.{packed}
+use Rattle.tables.specs.Names.{packed}
 use Rattle.reading.specs.Texts.{Reading, read, refused}
 use Rattle.reading.specs.Worked.{reading}
 use Rattle.fields.specs.Turns.{turnOf}

@@ -3,8 +3,8 @@ ghost use mathlib.Core.Path.{_≡_};
 ghost use Prim.Native.Nat.{_*_, _≤_};
 ghost use lib.ListN.{length};
 ghost use mathlib.Core.List.{List};
-ghost use Rattle.text.specs.declared.Name.{Name};
-ghost use Rattle.text.specs.Names.{rows};
+ghost use Rattle.tables.specs.declared.Name.{Name};
+ghost use Rattle.tables.specs.Names.{rows};
 ghost use Rattle.typings.specs.TypingLines.{Line, oneField, twoFields, answerTo, judged, typingLine};
 ghost use Rattle.typings.specs.TypingText.{untyped, tableOf, codeOf, refusedTyping, typingRead};
 use fields::read_set;
@@ -73,7 +73,7 @@ fn row_line(
     requires { ⌜ (length (now plus) ≤ 32768) × (length (now minus) ≤ 32768) × (4 * count ≤ length (now roles)) × (count ≤ 128) ⌝ }
     ensures { λ r. ⌜ r ≡ judged stage (rows count (now (roles .entry))) (Line.row (now (name .entry)) (now (label .entry)) (now (plus .entry)) (now (minus .entry))) ⌝ }
 {
-    let place = text::find(roles, count, text::pack(name));
+    let place = tables::find(roles, count, tables::pack(name));
     let p = read_set(plus, roles, count);
     let m = read_set(minus, roles, count);
     let fault = worse(p.fault, m.fault);

@@ -8,7 +8,7 @@ use Rattle.roles.specs.declared.RoleSet.{RoleSet}
 use Rattle.roles.specs.Sets.{emptySet, withOf}
 use Rattle.roles.specs.Members.{Sized, empty-sized}
 use Rattle.sheets.specs.Members.{union-sized, single-sized}
-use Rattle.text.specs.declared.Name.{Name}
+use Rattle.tables.specs.declared.Name.{Name}
 use Rattle.text.specs.Forms.{namesOf}
 use Rattle.fields.specs.Fields.{placed, rolesFrom, rolesOf}
 

@@ -14,7 +14,7 @@ use Rattle.roles.specs.Members.{Sized, empty-sized}
 use Rattle.model.specs.Policy.{L}
 use Rattle.model.specs.Meaning.{meaning}
 use Rattle.rules.specs.Exact.{Laid}
-use Rattle.text.specs.declared.Name.{Name}
+use Rattle.tables.specs.declared.Name.{Name}
 use Rattle.text.specs.Forms.{bytes, isName, isSet, isLabel}
 use Rattle.text.specs.Pieces.{split, sameBytes}
 use Rattle.reading.specs.Texts.{goes, ends, bad, read}

@@ -12,9 +12,9 @@ use native.Mathlib.Nat.{pow-suc, one-le-pow, pow-le-pow-right}
 use native.Mathlib.Numerals.{sub-one}
 use native.Mathlib.Omega.{arith}
 use Rattle.io.specs.Digits.{glyph, digits, Fewest}
-use Rattle.text.specs.declared.Name.{Name}
+use Rattle.tables.specs.declared.Name.{Name}
 use Rattle.text.specs.Forms.{every, nameByte, isName, name-byte-range, every-take, every-drop}
-use Rattle.text.specs.Names.{value, packed}
+use Rattle.tables.specs.Names.{value, packed}
 use Rattle.writing.specs.Written.{letters, spelled, digitsOf, decimal}
 
 -- ---- the bytes of a word

@@ -10,9 +10,9 @@ use Rattle.roles.specs.Sets.{hasRole}
 use Rattle.model.specs.declared.Typing.{Typing as Table}
 use Rattle.model.specs.Typing.{Typing}
 use Rattle.model.specs.Meaning.{meaning}
-use Rattle.text.specs.declared.Name.{Name}
+use Rattle.tables.specs.declared.Name.{Name}
 use Rattle.text.specs.Forms.{bytes}
-use Rattle.text.specs.Names.{rowOf, rows}
+use Rattle.tables.specs.Names.{rowOf, rows}
 use Rattle.writing.specs.Written.{spelled}
 use Rattle.writing.specs.Spelling.{spelled-length}
 use Rattle.writing.specs.TypingText.{labelText, setText, rowText, typingText}

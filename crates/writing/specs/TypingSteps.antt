@@ -13,9 +13,9 @@ use Rattle.roles.specs.Sets.{hasRole}
 use Rattle.model.specs.declared.Typing.{Typing as Table}
 use Rattle.model.specs.Typing.{Typing}
 use Rattle.model.specs.Meaning.{meaning}
-use Rattle.text.specs.declared.Name.{Name}
+use Rattle.tables.specs.declared.Name.{Name}
 use Rattle.text.specs.Forms.{bytes}
-use Rattle.text.specs.Names.{rowOf, rows, rows-length}
+use Rattle.tables.specs.Names.{rowOf, rows, rows-length}
 use Rattle.writing.specs.Written.{spelled}
 use Rattle.writing.specs.TypingText.{namesFrom, joinedAfter, joined, setText, labelText, rowText, rowsText, typingText}
 use Rattle.writing.specs.Growth.{Grows}

@@ -4,7 +4,7 @@ use mathlib.Core.Bool.{Bool, cond}
 use mathlib.Core.List.{List, [], _∷_, _++_}
 use lib.Dec.{eqb, ltb}
 use lib.ListN.{length, drop}
-use Rattle.text.specs.declared.Name.{Name}
+use Rattle.tables.specs.declared.Name.{Name}
 
 -- The buffer with the bytes at its start; past them it is as it was.
 unfoldable pub put : (bytes buffer : List ℕ) → List ℕ

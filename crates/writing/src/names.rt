@@ -3,7 +3,7 @@ ghost use mathlib.Core.Path.{_≡_};
 ghost use Prim.Native.Nat.{_≤_};
 ghost use lib.ListN.{length};
 ghost use Rattle.writing.specs.Written.{put, letters, spelled};
-use text::Name;
+use tables::Name;
 
 // How many bytes a word of a name holds.
 fn word_length(word: u64) -> usize

@@ -3,7 +3,7 @@ ghost use mathlib.Core.Bool.{Bool};
 ghost use mathlib.Core.Path.{_≡_};
 ghost use Prim.Native.Nat.{_*_, _≤_, _<_};
 ghost use lib.ListN.{length, drop};
-ghost use Rattle.text.specs.Names.{rowOf, rows};
+ghost use Rattle.tables.specs.Names.{rowOf, rows};
 ghost use Rattle.writing.specs.Written.{put};
 ghost use Rattle.writing.specs.TypingText.{setText, rowText, typingText};
 ghost use Rattle.writing.specs.TypingSteps.{memberText, fieldText, labelField};
@@ -12,7 +12,7 @@ use crate::names::write_name;
 use crate::pieces::write_bytes;
 use model::Typing;
 use roles::RoleSet;
-use text::Name;
+use tables::Name;
 
 // How many bytes a role adds to a set's text: its name if it is a member, and a comma before it where some member stands before.
 fn member_length(name: Name, member: bool, some: bool) -> usize
@@ -52,7 +52,7 @@ fn set_length(roles: &[u64], count: usize, set: RoleSet) -> usize
     let mut role = 0;
     while role < count {
         let member = set.has(role);
-        at += member_length(text::row(roles, role), member, some);
+        at += member_length(tables::row(roles, role), member, some);
         some = some | member;
         role += 1;
     }
@@ -72,7 +72,7 @@ fn write_set(out: &mut [u8], roles: &[u64], count: usize, set: RoleSet) -> usize
     let mut role = 0;
     while role < count {
         let member = set.has(role);
-        at += write_member(&mut out[at..], text::row(roles, role), member, some);
+        at += write_member(&mut out[at..], tables::row(roles, role), member, some);
         some = some | member;
         role += 1;
     }
@@ -108,7 +108,7 @@ fn row_length(roles: &[u64], count: usize, role: usize, plus: RoleSet, minus: Ro
     requires { ⌜ (4 * count ≤ length (now roles)) × (count ≤ 128) × (role < count) ⌝ }
     ensures { λ r. ⌜ ((label : Bool) → r ≡ length (rowText (rows count (now (roles .entry))) (rowOf (drop (4 * role) (now (roles .entry)))) label plus minus)) ⌝ }
 {
-    let name = name_length(text::row(roles, role));
+    let name = name_length(tables::row(roles, role));
     name + set_length(roles, count, plus) + set_length(roles, count, minus) + 5
 }
 
@@ -125,7 +125,7 @@ fn write_row(
     requires { ⌜ (4 * count ≤ length (now roles)) × (count ≤ 128) × (role < count) × (length (rowText (rows count (now roles)) (rowOf (drop (4 * role) (now roles))) label plus minus) ≤ length (now out)) ⌝ }
     ensures { λ r. ⌜ (r ≡ length (rowText (rows count (now (roles .entry))) (rowOf (drop (4 * role) (now (roles .entry)))) label plus minus)) × (now (out .exit) ≡ put (rowText (rows count (now (roles .entry))) (rowOf (drop (4 * role) (now (roles .entry)))) label plus minus) (now (out .entry))) ⌝ }
 {
-    let mut at = write_name(out, text::row(roles, role));
+    let mut at = write_name(out, tables::row(roles, role));
     at += write_label(&mut out[at..], label);
     at += write_field(&mut out[at..], roles, count, plus, b'\t');
     at + write_field(&mut out[at..], roles, count, minus, b'\n')

@@ -9,8 +9,8 @@ use mathlib.Core.Path.{sym, ap, _∙_}
 use Rattle.fields.specs.Fields.{nameRead, faultOf, placed, declared-test, new-test, worse}
 use Rattle.fields.specs.Fields.{nameRead, faultOf, placed, declared-test}
 use Rattle.fields.specs.Fields.{placed, declared-test, name-bad, name-good}
-use Rattle.text.specs.Names.{placeOf, rows}
-use Rattle.text.specs.Names.{rows}
+use Rattle.tables.specs.Names.{placeOf, rows}
+use Rattle.tables.specs.Names.{rows}
 use Rattle.fields.proofs.read_name.Statement.{statement}
 use Rattle.fields.proofs.read_name.Tie as tie
 

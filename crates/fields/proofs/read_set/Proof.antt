@@ -11,8 +11,8 @@ use Rattle.fields.specs.Sets.{Walked, walked-start, walk-malformed, walk
 use Rattle.roles.specs.Sets.{emptySet, hasRole, withOf}
 use Rattle.roles.specs.Sets.{emptySet}
 use Rattle.roles.specs.declared.RoleSet.{RoleSet}
-use Rattle.text.specs.Names.{rows, rows-length}
-use Rattle.text.specs.Names.{rows}
+use Rattle.tables.specs.Names.{rows, rows-length}
+use Rattle.tables.specs.Names.{rows}
 use Rattle.text.specs.Pieces.{sought-cut, sought-some, sought-last}
 use Rattle.text.specs.Pieces.{split, sought-cut, sought-some, sought-last}
 use Rattle.fields.proofs.read_set.Statement.{statement}

@@ -8,7 +8,7 @@ use Rattle.lines.specs.Lines.{has-judged}
 use Rattle.lines.specs.Lines.{inOrder, inTurn, wellFormed, withinLimit, declared, entry, judged, by-fault}
 use Rattle.lines.specs.Lines.{inOrder, wellFormed, withinLimit, declared, entry, judged, by-fault}
 use Rattle.text.specs.Forms.{isName}
-use Rattle.text.specs.Names.{rows}
+use Rattle.tables.specs.Names.{rows}
 use Rattle.lines.proofs.has_line.Statement.{statement}
 use Rattle.lines.proofs.has_line.Tie as tie
 

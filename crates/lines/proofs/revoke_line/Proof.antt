@@ -9,7 +9,7 @@ use Rattle.lines.specs.Lines.{inOrder, inTurn, wellFormed, withinLimit, 
 use Rattle.lines.specs.Lines.{inOrder, wellFormed, withinLimit, declared, entry, judged, by-fault}
 use Rattle.lines.specs.Lines.{revoke-judged}
 use Rattle.text.specs.Forms.{isName}
-use Rattle.text.specs.Names.{rows}
+use Rattle.tables.specs.Names.{rows}
 use Rattle.lines.proofs.revoke_line.Statement.{statement}
 use Rattle.lines.proofs.revoke_line.Tie as tie
 

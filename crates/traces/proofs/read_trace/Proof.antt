@@ -7,7 +7,7 @@ use native.Mathlib.Omega.{arith}
 use Rattle.traces.specs.TraceReached.{Reached, reached-start, reached-end, reached-tail, refused-long, line-refused, line-header, line-step, line-last, line-more}
 use Rattle.traces.specs.TraceText.{codeOf, refusedTrace}
 use Rattle.traces.specs.declared.TraceLine.{TraceLine}
-use Rattle.text.specs.Names.{rows}
+use Rattle.tables.specs.Names.{rows}
 use Rattle.traces.proofs.read_trace.Statement.{statement}
 use Rattle.traces.proofs.read_trace.Tie as tie
 

@@ -4,7 +4,7 @@ use mathlib.Core.Path.{ap, _∙_}
 use native.Mathlib.Omega.{arith}
 use Rattle.typings.specs.TypingLines.{row-judged}
 use Rattle.fields.specs.Fields.{placed}
-use Rattle.text.specs.Names.{placeOf, rows, rows-length, place-most}
+use Rattle.tables.specs.Names.{placeOf, rows, rows-length, place-most}
 use Rattle.typings.proofs.row_line.Statement.{statement}
 use Rattle.typings.proofs.row_line.Tie as tie
 

@@ -8,7 +8,7 @@ use Rattle.model.specs.Policy.{nobody}
 use Rattle.reading.specs.Policy.{padded, laidWith, laidOut, refusedPolicy, nothing, countsOf, noAssign, noRevoke}
 use Rattle.reading.specs.declared.policy.Policy.{Policy}
 use Rattle.roles.specs.declared.RoleSet.{RoleSet}
-use Rattle.text.specs.Names.{wordsOf}
+use Rattle.tables.specs.Names.{wordsOf}
 use Rattle.reading.proofs.policy.refused.Statement.{statement}
 use Rattle.reading.proofs.policy.refused.Tie as tie
 

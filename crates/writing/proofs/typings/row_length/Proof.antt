@@ -5,8 +5,8 @@ use denote.Ref.{now}
 use lib.ListN.{length, drop}
 use mathlib.Core.Path.{ap}
 use native.Mathlib.Omega.{arith}
-use Rattle.text.specs.declared.Name.{Name}
-use Rattle.text.specs.Names.{rowOf, rows}
+use Rattle.tables.specs.declared.Name.{Name}
+use Rattle.tables.specs.Names.{rowOf, rows}
 use Rattle.writing.specs.Written.{spelled}
 use Rattle.writing.specs.Spelling.{spelled-length}
 use Rattle.writing.specs.TypingLengths.{set-most, row-length}

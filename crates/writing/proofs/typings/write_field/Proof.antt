@@ -4,7 +4,7 @@ use borrow.Author.Needs.{needs}
 use denote.Ref.{now}
 use lib.ListN.{length}
 use native.Mathlib.Omega.{arith}
-use Rattle.text.specs.Names.{rows}
+use Rattle.tables.specs.Names.{rows}
 use Rattle.writing.specs.Buffers.{wrote, written, wrote-byte}
 use Rattle.writing.specs.TypingText.{setText}
 use Rattle.writing.specs.TypingSteps.{fieldText}

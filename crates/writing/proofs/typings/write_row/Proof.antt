@@ -6,8 +6,8 @@ use lib.ListN.{length}
 use mathlib.Core.List.{_++_}
 use mathlib.Core.Path.{ap, _∙_}
 use native.Mathlib.Omega.{arith}
-use Rattle.text.specs.declared.Name.{Name}
-use Rattle.text.specs.Names.{rows}
+use Rattle.tables.specs.declared.Name.{Name}
+use Rattle.tables.specs.Names.{rows}
 use Rattle.writing.specs.Written.{spelled}
 use Rattle.writing.specs.Buffers.{Wrote, back, wrote, written, wrote-as, wrote-more, wrote-within, room}
 use Rattle.writing.specs.TypingSteps.{fieldText, labelField, row-text}

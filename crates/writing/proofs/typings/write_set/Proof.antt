@@ -6,7 +6,7 @@ use mathlib.Core.List.{[]}
 use mathlib.Core.Path.{_≡_, refl, sym, ap, _∙_}
 use native.Mathlib.Omega.{arith}
 use Rattle.text.specs.Forms.{bytes}
-use Rattle.text.specs.Names.{rows}
+use Rattle.tables.specs.Names.{rows}
 use Rattle.writing.specs.Buffers.{put-none, Wrote, wrote, written, wrote-none, wrote-as, wrote-more, wrote-length, wrote-within, room}
 use Rattle.writing.specs.TypingText.{setText}
 use Rattle.writing.specs.Growth.{part-within, piece-room}

@@ -9,7 +9,7 @@ use native.Mathlib.Omega.{arith}
 use Rattle.roles.specs.Sets.{emptySet}
 use Rattle.model.specs.Meaning.{meaning}
 use Rattle.text.specs.Forms.{bytes}
-use Rattle.text.specs.Names.{rows}
+use Rattle.tables.specs.Names.{rows}
 use Rattle.writing.specs.Buffers.{Wrote, back, wrote, written, wrote-as, wrote-more, wrote-length, wrote-within, room}
 use Rattle.writing.specs.TypingText.{typingText}
 use Rattle.writing.specs.Growth.{piece-room}

@@ -5,10 +5,10 @@ use lib.ListN.{length, drop, drop-of-length-le, length-drop}
 use lib.Seq.{take-all}
 use mathlib.Core.Path.{_≡_, sym, _∙_, ap}
 use native.Mathlib.Omega.{arith}
-use Rattle.text.specs.Names.{value, value-last}
+use Rattle.tables.specs.Names.{value, value-last}
 use Rattle.text.specs.Pieces.{part-rest}
-use Rattle.text.proofs.word_at.Statement.{statement}
-use Rattle.text.proofs.word_at.Tie as tie
+use Rattle.tables.proofs.word_at.Statement.{statement}
+use Rattle.tables.proofs.word_at.Tie as tie
 
 returns : tie.Need-returns
 unfolding value

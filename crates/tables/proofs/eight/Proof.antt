@@ -2,9 +2,9 @@
 use borrow.Author.Needs.{needs}
 use mathlib.Core.Path.{_∙_}
 use native.Mathlib.Omega.{arith}
-use Rattle.text.specs.Names.{value-eight}
-use Rattle.text.proofs.eight.Statement.{statement}
-use Rattle.text.proofs.eight.Tie as tie
+use Rattle.tables.specs.Names.{value-eight}
+use Rattle.tables.proofs.eight.Statement.{statement}
+use Rattle.tables.proofs.eight.Tie as tie
 
 shared-slice-read-joined : tie.Need-shared-slice-read-joined
 shared-slice-read-joined c = search needs

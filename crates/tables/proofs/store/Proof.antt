@@ -1,9 +1,9 @@
 -- `store` writes the four words where the name stands.
 use borrow.Author.Needs.{needs}
 use mathlib.Core.Path.{refl}
-use Rattle.text.specs.Names.{stored}
-use Rattle.text.proofs.store.Statement.{statement}
-use Rattle.text.proofs.store.Tie as tie
+use Rattle.tables.specs.Names.{stored}
+use Rattle.tables.proofs.store.Statement.{statement}
+use Rattle.tables.proofs.store.Tie as tie
 
 mul-at : tie.Need-mul-at
 mul-at c = search needs

@@ -10,10 +10,10 @@ use native.Mathlib.Nat.{le-refl}
 use native.Mathlib.Nat.{one-le-pow, le-refl}
 use native.Mathlib.Nat.{one-le-pow}
 use native.Mathlib.Omega.{arith}
-use Rattle.text.specs.Names.{value, value-end, word-bound, word-fits, word-next}
-use Rattle.text.specs.Names.{value, value-next, value-end, word-next, word-fits}
-use Rattle.text.proofs.word.Statement.{statement}
-use Rattle.text.proofs.word.Tie as tie
+use Rattle.tables.specs.Names.{value, value-end, word-bound, word-fits, word-next}
+use Rattle.tables.specs.Names.{value, value-next, value-end, word-next, word-fits}
+use Rattle.tables.proofs.word.Statement.{statement}
+use Rattle.tables.proofs.word.Tie as tie
 
 abbrev Inv-loop : tie.InvT-loop
 Inv-loop part n₀ i₀ n i = (i ≤ length part) × (n < 256 ^ (8 - i)) × (n ≡ value (drop i part))

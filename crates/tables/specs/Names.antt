@@ -11,9 +11,9 @@ use lib.Seq.{drop-cons, drop-drop, getD-drop, take-all}
 use native.Mathlib.Nat.{add-zero, zero-add, add-mul-div-left, div-div-eq-div-mul, div-eq-of-lt, div-one, pow-suc, pow-le-pow-right, zero-div}
 use native.Mathlib.Numerals.{add-one}
 use native.Mathlib.Omega.{arith}
-use Rattle.text.specs.declared.Name.{Name}
+use Rattle.tables.specs.declared.Name.{Name}
 use Rattle.text.specs.Eights.{eight-bytes}
 use Rattle.text.specs.Forms.{every, nameByte, isName, name-byte-range, every-take, every-drop}
 
 -- bytes as one number, the first byte lowest
 unfoldable pub value : List ℕ → ℕ

@@ -2,9 +2,9 @@
 use borrow.Author.Needs.{needs}
 use lib.Seq.{getD-drop}
 use native.Mathlib.Nat.{add-zero}
-use Rattle.text.specs.Names.{rowOf}
-use Rattle.text.proofs.row.Statement.{statement}
-use Rattle.text.proofs.row.Tie as tie
+use Rattle.tables.specs.Names.{rowOf}
+use Rattle.tables.proofs.row.Statement.{statement}
+use Rattle.tables.proofs.row.Tie as tie
 
 mul-at : tie.Need-mul-at
 mul-at c = search needs

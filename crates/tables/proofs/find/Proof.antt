@@ -5,10 +5,10 @@ use lib.ListN.{drop}
 use mathlib.Core.Path.{_≡_}
 use native.Mathlib.Nat.{sub-zero, zero-add}
 use native.Mathlib.Omega.{arith}
-use Rattle.text.specs.Names.{placeOf, rows, place-found, place-passed, place-none}
-use Rattle.text.specs.Names.{placeOf, rows, place-next}
-use Rattle.text.proofs.find.Statement.{statement}
-use Rattle.text.proofs.find.Tie as tie
+use Rattle.tables.specs.Names.{placeOf, rows, place-found, place-passed, place-none}
+use Rattle.tables.specs.Names.{placeOf, rows, place-next}
+use Rattle.tables.proofs.find.Statement.{statement}
+use Rattle.tables.proofs.find.Tie as tie
 
 abbrev Inv-loop : tie.InvT-loop
 Inv-loop table count name place₀ place = (place ≤ count) × (placeOf (rows count table) name ≡ place + placeOf (rows (count - place) (drop (4 * place) table)) name)

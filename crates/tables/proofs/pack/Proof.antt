@@ -1,8 +1,8 @@
 -- `pack` packs the four words, one after the other.
 use borrow.Author.Needs.{needs}
-use Rattle.text.specs.Names.{packed}
-use Rattle.text.proofs.pack.Statement.{statement}
-use Rattle.text.proofs.pack.Tie as tie
+use Rattle.tables.specs.Names.{packed}
+use Rattle.tables.proofs.pack.Statement.{statement}
+use Rattle.tables.proofs.pack.Tie as tie
 
 word-at-requires : tie.Need-word-at-requires
 word-at-requires c κs = search needs

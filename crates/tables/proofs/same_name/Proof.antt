@@ -1,8 +1,8 @@
 -- `same_name` compares the four words.
 use mathlib.Core.Path.{refl}
-use Rattle.text.specs.Names.{sameName}
-use Rattle.text.proofs.same_name.Statement.{statement}
-use Rattle.text.proofs.same_name.Tie as tie
+use Rattle.tables.specs.Names.{sameName}
+use Rattle.tables.proofs.same_name.Statement.{statement}
+use Rattle.tables.proofs.same_name.Tie as tie
 
 returns : tie.Need-returns
 unfolding sameName
