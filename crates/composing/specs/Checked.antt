@@ -16,7 +16,7 @@ use Rattle.reading.specs.Policy.{Said, policyOf, countsOf, readPolicy}
 use Rattle.typings.specs.TypingText.{Typed, readTyping, tableOf}
 use Rattle.places.specs.Place.{isTyping}
 use Rattle.judging.specs.Verdict.{pinnedNames}
-use Rattle.writing.specs.TypingText.{typingText}
+use Rattle.spelling.specs.TypingText.{typingText}
 use Rattle.rereading.specs.Fits.{fits-read}
 use Rattle.merging.specs.declared.MergeAnswer.{MergeAnswer}
 use Rattle.merging.specs.Sums.{sumOf}

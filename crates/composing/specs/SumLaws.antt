@@ -12,7 +12,7 @@ use Rattle.tables.specs.declared.Name.{Name}
 use Rattle.reading.specs.Texts.{read}
 use Rattle.reading.specs.Policy.{Said, readPolicy}
 use Rattle.typings.specs.TypingText.{Typed, readTyping, tableOf}
-use Rattle.writing.specs.TypingText.{typingText}
+use Rattle.spelling.specs.TypingText.{typingText}
 use Rattle.rereading.specs.Fits.{fits-read}
 use Rattle.merging.specs.declared.SumAnswer.{SumAnswer}
 use Rattle.merging.specs.Sums.{paired, sumOf}

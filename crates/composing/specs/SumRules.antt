@@ -8,7 +8,7 @@ use Rattle.reading.specs.Texts.{read, refused}
 use Rattle.reading.specs.Policy.{Said, readPolicy}
 use Rattle.typings.specs.TypingText.{Typed, readTyping, tableOf}
 use Rattle.judging.specs.Verdict.{pinnedNames}
-use Rattle.writing.specs.TypingText.{typingText}
+use Rattle.spelling.specs.TypingText.{typingText}
 use Rattle.merging.specs.declared.SumAnswer.{SumAnswer}
 use Rattle.merging.specs.Sums.{sumOf}
 use Rattle.merging.specs.Outcome.{Outcome, leaves, writes}

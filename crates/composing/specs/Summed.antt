@@ -17,7 +17,7 @@ use Rattle.tables.specs.declared.Name.{Name}
 use Rattle.reading.specs.Texts.{read}
 use Rattle.reading.specs.Policy.{padded}
 use Rattle.typings.specs.TypingText.{Typed, readTyping, tableOf}
-use Rattle.writing.specs.TypingText.{typingText}
+use Rattle.spelling.specs.TypingText.{typingText}
 use Rattle.rereading.specs.Named.{Named}
 use Rattle.rereading.specs.Fits.{Inside, Fits}
 use Rattle.rereading.specs.Back.{reads-back}

@@ -13,7 +13,7 @@ use Rattle.reading.specs.declared.policy.Policy.{Policy}
 use Rattle.reading.specs.Texts.{Reading, read, refused}
 use Rattle.reading.specs.Policy.{Said}
 use Rattle.writing.specs.Written.{put}
-use Rattle.writing.specs.TypingText.{typingText}
+use Rattle.spelling.specs.TypingText.{typingText}
 use Rattle.merging.specs.Outcome.{Outcome, leaves, writes, answerIn, bufferAfter, whenRead, fits, fitting, Meets}
 use Rattle.merging.specs.Layout.{Laid, names-are}
 

@@ -15,7 +15,7 @@ use Rattle.typings.specs.TypingText.{Typed, readTyping, tableOf}
 use Rattle.judging.specs.declared.Part.{Part}
 use Rattle.judging.specs.declared.TypingVerdict.{TypingVerdict}
 use Rattle.judging.specs.Verdict.{subjectIn, judgedTyping, judgedRules, pinnedNames}
-use Rattle.writing.specs.TypingText.{typingText}
+use Rattle.spelling.specs.TypingText.{typingText}
 use Rattle.merging.specs.declared.MergeAnswer.{MergeAnswer}
 use Rattle.merging.specs.Sums.{sumOf}
 use Rattle.merging.specs.Directory.{sameDirectory, sameTables}

@@ -2,11 +2,11 @@
 ghost use Prim.Native.Nat.{_*_, _≤_};
 ghost use lib.ListN.{length};
 ghost use Rattle.tables.specs.Names.{rows};
-ghost use Rattle.writing.specs.TypingText.{typingText};
+ghost use Rattle.spelling.specs.TypingText.{typingText};
 ghost use Rattle.merging.specs.Outcome.{Meets, fitting};
 use model::Typing;
-use writing::typings::text_length;
-use writing::typings::write_typing;
+use spelling::text_length;
+use spelling::write_typing;
 
 // The length of the typing's text, which stands in the buffer then; or 0, where the text is longer than the buffer or than
 // 32,768 bytes and nothing is written.

@@ -17,7 +17,7 @@ use Rattle.tables.specs.Names.{placeOf}
 use Rattle.text.specs.Pieces.{split}
 use Rattle.reading.specs.Texts.{Judged, goes, ends, read, readLines, lines-next, onward-goes, onward-ends, closing-none, text-fits}
 use Rattle.steps.specs.Places.{at-listed}
-use Rattle.writing.specs.TypingText.{rowText, rowsText, typingText}
+use Rattle.spelling.specs.TypingText.{rowText, rowsText, typingText}
 use Rattle.typings.specs.TypingLines.{typingLine}
 use Rattle.typings.specs.TypingText.{Typed, untyped, added, answered, judgeLine, readTyping, tableOf}
 use Rattle.verdicts.specs.TypingLaid.{label-read, plus-read, minus-read}

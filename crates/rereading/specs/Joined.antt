@@ -9,7 +9,7 @@ use lib.ListN.{length}
 use native.Mathlib.Omega.{arith}
 use Rattle.text.specs.Forms.{bytes, every, between, nameByte, isName, namesOf, name-byte-range}
 use Rattle.text.specs.Pieces.{split, sameBytes}
-use Rattle.writing.specs.TypingText.{joinedAfter, joined}
+use Rattle.spelling.specs.TypingText.{joinedAfter, joined}
 use Rattle.rereading.specs.Cuts.{free, cut-first, cut-last, free-join, free-name}
 
 -- ---- the names again

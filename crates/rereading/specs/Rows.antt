@@ -14,7 +14,7 @@ use Rattle.tables.specs.Names.{placeOf}
 use Rattle.text.specs.Pieces.{split, onto, sameBytes}
 use Rattle.fields.specs.Fields.{placed}
 use Rattle.writing.specs.Written.{spelled}
-use Rattle.writing.specs.TypingText.{setText, labelText}
+use Rattle.spelling.specs.TypingText.{setText, labelText}
 use Rattle.typings.specs.declared.TypingEntry.{TypingEntry}
 use Rattle.typings.specs.declared.TypingLine.{TypingLine}
 use Rattle.fields.specs.Turns.{turnOf}

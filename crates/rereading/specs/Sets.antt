@@ -15,7 +15,7 @@ use Rattle.text.specs.Forms.{every, isName, isSet, namesOf}
 use Rattle.text.specs.Pieces.{repeated}
 use Rattle.fields.specs.Fields.{placed, isDeclared, allDeclared, rolesFrom, rolesOf}
 use Rattle.writing.specs.Written.{spelled}
-use Rattle.writing.specs.TypingText.{namesFrom, setText}
+use Rattle.spelling.specs.TypingText.{namesFrom, setText}
 use Rattle.verdicts.specs.Sizes.{roles-sized}
 use Rattle.rereading.specs.Cuts.{free}
 use Rattle.rereading.specs.Joined.{names-back, Apart, free-joined}

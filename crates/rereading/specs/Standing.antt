@@ -17,7 +17,7 @@ use Rattle.fields.specs.Fields.{placed}
 use Rattle.steps.specs.Places.{at-listed}
 use Rattle.writing.specs.Written.{spelled}
 use Rattle.writing.specs.Spelling.{spelled-packed}
-use Rattle.writing.specs.TypingText.{namesFrom}
+use Rattle.spelling.specs.TypingText.{namesFrom}
 use Rattle.rereading.specs.Named.{Spelt, Named}
 
 -- The names from a number on: each spells a name and stands at its number, and they go to the end of the table.

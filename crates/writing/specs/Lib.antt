@@ -1,8 +1,4 @@
--- How names, numbers and typings are written into a lent buffer.
+-- How bytes, names and numbers are written into a lent buffer.
 pub mod Written
 pub mod Buffers
 pub mod Spelling
-pub mod TypingText
-pub mod Growth
-pub mod TypingSteps
-pub mod TypingLengths

@@ -1,5 +1,4 @@
-// Names, numbers and typings written into a lent buffer.
+// Pieces of text, names and numbers written into a lent buffer.
 pub mod names;
 pub mod numbers;
 pub mod pieces;
-pub mod typings;
