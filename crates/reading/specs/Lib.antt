@@ -1,4 +1,4 @@
--- How a text is read line by line, and what a policy text is read into.
+-- How a text is read line by line, what a policy text is read into, and when any piece of evidence is refused.
 pub mod Texts
 pub mod Policy
 pub mod Walk
