@@ -11,10 +11,10 @@ use Rattle.tables.specs.Names.{packed, rowOf, rows, rows-length}
 use Rattle.model.specs.declared.Typing.{Typing as Table}
 use Rattle.reading.specs.Texts.{Reading, read, refused}
 use Rattle.lines.specs.declared.Counts.{Counts}
-use Rattle.reading.specs.declared.policy.Policy.{Policy}
-use Rattle.reading.specs.Policy.{Said, countsOf, laidOut, readPolicy}
-use Rattle.reading.specs.Reached.{Bounded}
-use Rattle.reading.specs.Told.{counts-laid, roles-laid, users-laid}
+use Rattle.reading.specs.declared.directory.Directory.{Directory}
+use Rattle.reading.specs.declared.policy.Rules.{Rules}
+use Rattle.reading.specs.Policy.{Said, countsOf, readPolicy}
+use Rattle.reading.specs.Told.{Told, counts-laid, roles-laid, users-laid, people-laid}
 use Rattle.typings.specs.declared.TypingRead.{TypingRead}
 use Rattle.typings.specs.TypingText.{Typed, readTyping, tableOf, typingRead}
 use Rattle.typings.specs.TypingTold.{typing-told, typing-untold}
@@ -25,7 +25,7 @@ use Rattle.judging.specs.declared.TypingVerdict.{TypingVerdict}
 use Rattle.judging.specs.Verdict.{Subject, subjectOf, subjectIn, judgedTyping, pinnedNames}
 use Rattle.running.specs.declared.TraceVerdict.{TraceVerdict}
 use Rattle.running.specs.Verdict.{traceVerdict}
-use Rattle.running.specs.Layout.{saidIn, Counted, counted-laid, verdict-laid}
+use Rattle.running.specs.Layout.{arrays, saidIn, verdict-laid}
 use Rattle.answering.specs.declared.Answer.{Answer}
 use Rattle.answering.specs.declared.NamedAnswer.{NamedAnswer}
 use Rattle.answering.specs.Answers.{judgedAnswer, typingAnswer, traceAnswer, evidenceAnswer, answerAfter, answerOf, usersIn, nameAt}
@@ -108,25 +108,22 @@ module _ (policy evidence : List ℕ) where
   unfolding unnamedAnswer namedOver nameIn usersIn answerAfter
   policy-refused is = answer-after is
 
-  module _ {s : Said} (is : readPolicy policy ≡ read s) (bounded : Bounded s) {p : Policy} (laid : p ≡ laidOut s) where
+  module _ {D : Directory} {R : Rules} (t : Told policy D R) where
     -- by the kind of the evidence
     read-answer : {kind : Bool} → isTyping evidence ≡ kind
-        → namedOver (s .users) (cond kind (typingAnswer (countsOf s) (subjectOf s) (readTyping (s .roles) evidence)) (traceAnswer (traceVerdict s evidence))) ≡ namedAnswer policy evidence
+        → namedOver (t .said .users) (cond kind (typingAnswer (countsOf (t .said)) (subjectOf (t .said)) (readTyping (t .said .roles) evidence)) (traceAnswer (traceVerdict (t .said) evidence))) ≡ namedAnswer policy evidence
     unfolding usersIn answerAfter evidenceAnswer
     read-answer kind =
-        ap (λ (b : Bool). namedOver (s .users) (cond b (typingAnswer (countsOf s) (subjectOf s) (readTyping (s .roles) evidence)) (traceAnswer (traceVerdict s evidence)))) (sym kind) ∙ answer-after is
+        ap (λ (b : Bool). namedOver (t .said .users) (cond b (typingAnswer (countsOf (t .said)) (subjectOf (t .said)) (readTyping (t .said .roles) evidence)) (traceAnswer (traceVerdict (t .said) evidence)))) (sym kind)
+        ∙ answer-after (t .is)
 
-    pub over-typing : isTyping evidence ≡ true → unnamedAnswer (typingAnswer (p .counts) (subjectIn p) (readTyping (rows (p .counts .roles) (p .roles)) evidence)) ≡ namedAnswer policy evidence
+    pub over-typing : isTyping evidence ≡ true → unnamedAnswer (typingAnswer (R .counts) (subjectIn (D .persons) R) (readTyping (rows (R .counts .roles) (D .roles)) evidence)) ≡ namedAnswer policy evidence
     over-typing kind =
-        ap₂ (λ (c : Counts) (names : List Name). unnamedAnswer (typingAnswer c (subjectIn p) (readTyping names evidence))) (counts-laid s bounded laid) (roles-laid s bounded laid)
-        ∙ ap (λ (subject : Subject). unnamedAnswer (typingAnswer (countsOf s) subject (readTyping (s .roles) evidence))) (ap subjectIn laid ∙ subject-laid bounded)
-        ∙ typing-unnamed (s .users) (countsOf s) (subjectOf s) (readTyping (s .roles) evidence)
+        ap₂ (λ (c : Counts) (names : List Name). unnamedAnswer (typingAnswer c (subjectIn (D .persons) R) (readTyping names evidence))) (counts-laid (t .laid)) (roles-laid (t .laid))
+        ∙ ap (λ (subject : Subject). unnamedAnswer (typingAnswer (countsOf (t .said)) subject (readTyping (t .said .roles) evidence))) (ap (subjectIn (D .persons)) (t .laid .rules) ∙ subject-laid (t .laid .bounded) (people-laid (t .laid)))
+        ∙ typing-unnamed (t .said .users) (countsOf (t .said)) (subjectOf (t .said)) (readTyping (t .said .roles) evidence)
         ∙ read-answer kind
 
-    pub over-trace : {v : TraceVerdict} → v ≡ traceVerdict (saidIn p) evidence → isTyping evidence ≡ false → namedOver (rows (p .counts .users) (p .users)) (traceAnswer v) ≡ namedAnswer policy evidence
+    pub over-trace : {v : TraceVerdict} → v ≡ traceVerdict (saidIn (arrays (D .users) (D .persons) R)) evidence → isTyping evidence ≡ false → namedOver (rows (R .counts .users) (D .users)) (traceAnswer v) ≡ namedAnswer policy evidence
     over-trace verdict kind =
-        ap₂ (λ (users : List Name) (v : TraceVerdict). namedOver users (traceAnswer v)) (users-laid s bounded laid) (verdict ∙ verdict-laid evidence bounded laid) ∙ read-answer kind
-
--- the counts of a policy that is read are within their limits
-pub counted : {s : Said} {p : Policy} → Bounded s → p ≡ laidOut s → Counted p
-counted bounded laid = subst Counted (sym laid) (counted-laid bounded)
+        ap₂ (λ (users : List Name) (v : TraceVerdict). namedOver users (traceAnswer v)) (users-laid (t .laid)) (verdict ∙ verdict-laid (t .laid) evidence) ∙ read-answer kind

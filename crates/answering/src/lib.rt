@@ -12,8 +12,9 @@ use judging::pinned;
 use lines::Counts;
 use model::Typing;
 use places::is_typing;
-use reading::policy::has_header;
-use reading::policy::read_policy;
+use reading::directory::has_header;
+use reading::directory::read_directory;
+use reading::policy::read_rules;
 use running::TraceVerdict;
 use running::run_trace;
 use tables::Name;
@@ -87,27 +88,31 @@ fn traced(verdict: TraceVerdict, users: &[u64], count: usize) -> NamedAnswer
     }
 }
 
-// The answer to two texts: the policy is read, then the evidence, then it is judged.
+// The answer to two texts: the directory is read, then the rules, then the evidence, and it is judged.
 fn answer_read(policy: &[u8], evidence: &[u8]) -> NamedAnswer
     ensures { λ r. ⌜ r ≡ namedAnswer (now (policy .entry)) (now (evidence .entry)) ⌝ }
 {
-    let p = read_policy(policy);
-    if p.refusal != 0 {
-        return unnamed(Answer::Refused(p.refusal, p.line));
+    let d = read_directory(policy);
+    if d.refusal != 0 {
+        return unnamed(Answer::Refused(d.refusal, d.line));
     }
-    let c = p.counts;
+    let r = read_rules(policy, &d.roles, &d.users, d.counts, d.at, d.line);
+    if r.refusal != 0 {
+        return unnamed(Answer::Refused(r.refusal, r.line));
+    }
+    let c = r.counts;
     if is_typing(evidence) {
-        let roles = p.roles;
-        let read = read_typing(evidence, &roles, c.roles);
+        let read = read_typing(evidence, &d.roles, c.roles);
         if read.refusal != 0 {
             return unnamed(Answer::Refused(read.refusal, read.line));
         }
+        let people = d.persons;
         let t = read.typing;
-        return unnamed(judged(judge_typing(p, t), c, t));
+        return unnamed(judged(judge_typing(people, r, t), c, t));
     }
-    let verdict = run_trace(evidence, p);
-    let users = p.users;
-    traced(verdict, &users, c.users)
+    let people = d.persons;
+    let verdict = run_trace(evidence, &d.users, people, r);
+    traced(verdict, &d.users, c.users)
 }
 
 // The answer to a policy text and a piece of evidence, with the name of the user of whom it speaks. A policy that is too long or

@@ -78,14 +78,14 @@ module _ {s : Said} {t : Table} (sized : SizedPolicy s) (laid : Laid t (length (
 
   -- ---- accepted
 
-  holdings-accepted : failingPart Part.Holdings (firstHolding (subjectOf s) (turnedOf t (length (s .roles)))) ≡ TypingVerdict.Accepted ↔ HoldingsPass (meaning t) (s .holdings)
+  holdings-accepted : failingPart Part.Holdings (firstHolding (s .holdings) (turnedOf t (length (s .roles)))) ≡ TypingVerdict.Accepted ↔ HoldingsPass (meaning t) (s .holdings)
   unfolding subjectOf firstHolding
   holdings-accepted =
       let each = holdings-each (meaning t) (s .holdings) in
       let part = part-accepted Part.Holdings persons-exact in
       (λ e. each .1 (part .0 e), λ pass. part .1 (each .0 pass))
 
-  goals-accepted : failingPart Part.Goal (firstGoal (subjectOf s) (turnedOf t (length (s .roles)))) ≡ TypingVerdict.Accepted ↔ ((goal : RoleSet) → Listed goal (s .goals) → GoalPasses closure (meaning t) goal)
+  goals-accepted : failingPart Part.Goal (firstGoal (policyOf s) (turnedOf t (length (s .roles)))) ≡ TypingVerdict.Accepted ↔ ((goal : RoleSet) → Listed goal (s .goals) → GoalPasses closure (meaning t) goal)
   unfolding subjectOf policyOf firstGoal
   goals-accepted = part-accepted Part.Goal goals-exact
 
@@ -126,10 +126,10 @@ module _ {s : Said} {t : Table} (sized : SizedPolicy s) (laid : Laid t (length (
   rules-first part number = (λ e. told (one-fails assigns revokes part number .0 e), found)
     where
       assigns : TypingVerdict
-      assigns = failingPart Part.Assign (firstAssign (subjectOf s) (turnedOf t (length (s .roles))))
+      assigns = failingPart Part.Assign (firstAssign (policyOf s) (turnedOf t (length (s .roles))))
 
       revokes : TypingVerdict
-      revokes = failingPart Part.Revoke (firstRevoke (subjectOf s) (turnedOf t (length (s .roles))))
+      revokes = failingPart Part.Revoke (firstRevoke (policyOf s) (turnedOf t (length (s .roles))))
 
       told : (assigns ≡ TypingVerdict.Fails part number) ⊎ ((assigns ≡ TypingVerdict.Accepted) × (revokes ≡ TypingVerdict.Fails part number)) → FirstRule (meaning t) (policyOf s) part number
       told (inl e) =
@@ -150,13 +150,13 @@ module _ {s : Said} {t : Table} (sized : SizedPolicy s) (laid : Laid t (length (
   unproved-first part number = (λ e. told (one-fails users after-users part number .0 e), found)
     where
       users : TypingVerdict
-      users = failingPart Part.Holdings (firstHolding (subjectOf s) (turnedOf t (length (s .roles))))
+      users = failingPart Part.Holdings (firstHolding (s .holdings) (turnedOf t (length (s .roles))))
 
       rules : TypingVerdict
       rules = rulesVerdict s t
 
       goals : TypingVerdict
-      goals = failingPart Part.Goal (firstGoal (subjectOf s) (turnedOf t (length (s .roles))))
+      goals = failingPart Part.Goal (firstGoal (policyOf s) (turnedOf t (length (s .roles))))
 
       after-users : TypingVerdict
       after-users = andThen rules goals

@@ -4,13 +4,14 @@ use mathlib.Core.Bool.{Bool, cond}
 use mathlib.Core.List.{List, [], _∷_}
 use lib.ListN.{length, take}
 use Rattle.roles.specs.Sets.{sizeOf}
+use Rattle.model.specs.declared.Person.{Person}
 use Rattle.model.specs.declared.Typing.{Typing as Table}
 use Rattle.model.specs.Policy.{Policy, State}
 use Rattle.model.specs.Typing.{Typing}
 use Rattle.model.specs.Meaning.{meaning}
 use Rattle.sheets.specs.Turned.{Turned, turnedOf}
 use Rattle.rules.specs.Tests.{personPasses, assignPasses, revokePasses, goalPasses}
-use Rattle.reading.specs.declared.policy.Policy.{Policy as Arrays}
+use Rattle.reading.specs.declared.policy.Rules.{Rules}
 use Rattle.reading.specs.Policy.{Said, policyOf}
 use Rattle.judging.specs.declared.Part.{Part}
 use Rattle.judging.specs.declared.TypingVerdict.{TypingVerdict}
@@ -37,32 +38,32 @@ pub record Subject : Type 0 where
 unfoldable pub subjectOf : Said → Subject
 subjectOf s = record { roles = length (s .roles); holdings = s .holdings; policy = policyOf s }
 
--- Of a policy in arrays: as many elements of each array as its count says, and at most all of them.
-unfoldable pub subjectIn : Arrays → Subject
-subjectIn p = record {
-  roles = p .counts .roles;
-  holdings = take (min (p .counts .users) 64) (p .persons);
-  policy = record {
-    assigns = take (min (p .counts .assigns) 256) (p .assigns);
-    revokes = take (min (p .counts .revokes) 256) (p .revokes);
-    goals = take (min (p .counts .goals) 32) (p .goals);
-  };
+-- Of rules and goals in arrays: as many elements of each array as its count says, and at most all of them.
+unfoldable pub policyIn : Rules → Policy
+policyIn p = record {
+  assigns = take (min (p .counts .assigns) 256) (p .assigns);
+  revokes = take (min (p .counts .revokes) 256) (p .revokes);
+  goals = take (min (p .counts .goals) 32) (p .goals);
 }
+
+-- Of people and rules in arrays, likewise.
+unfoldable pub subjectIn : List Person → Rules → Subject
+subjectIn persons p = record { roles = p .counts .roles; holdings = take (min (p .counts .users) 64) persons; policy = policyIn p }
 
 -- ---- the verdict
 
 -- By what a typing says: the first user whose holdings fail, and the first assign rule, revoke rule and goal that fails.
-unfoldable pub firstHolding : Subject → Turned → ℕ
-firstHolding subject said = firstFailing (personPasses said) (subject .holdings)
+unfoldable pub firstHolding : State → Turned → ℕ
+firstHolding holdings said = firstFailing (personPasses said) holdings
 
-unfoldable pub firstAssign : Subject → Turned → ℕ
-firstAssign subject said = firstFailing (assignPasses said) (subject .policy .assigns)
+unfoldable pub firstAssign : Policy → Turned → ℕ
+firstAssign policy said = firstFailing (assignPasses said) (policy .assigns)
 
-unfoldable pub firstRevoke : Subject → Turned → ℕ
-firstRevoke subject said = firstFailing (revokePasses said) (subject .policy .revokes)
+unfoldable pub firstRevoke : Policy → Turned → ℕ
+firstRevoke policy said = firstFailing (revokePasses said) (policy .revokes)
 
-unfoldable pub firstGoal : Subject → Turned → ℕ
-firstGoal subject said = firstFailing (goalPasses said) (subject .policy .goals)
+unfoldable pub firstGoal : Policy → Turned → ℕ
+firstGoal policy said = firstFailing (goalPasses said) (policy .goals)
 
 -- The verdict on one part, by the number of its first failure.
 unfoldable pub failingPart : Part → ℕ → TypingVerdict
@@ -75,23 +76,25 @@ andThen TypingVerdict.Accepted next = next
 andThen (TypingVerdict.Fails part number) next = TypingVerdict.Fails part number
 
 -- Assign rules, then revoke rules.
-unfoldable pub rulesSaid : Subject → Turned → TypingVerdict
-rulesSaid subject said = andThen (failingPart Part.Assign (firstAssign subject said)) (failingPart Part.Revoke (firstRevoke subject said))
+unfoldable pub rulesSaid : Policy → Turned → TypingVerdict
+rulesSaid policy said = andThen (failingPart Part.Assign (firstAssign policy said)) (failingPart Part.Revoke (firstRevoke policy said))
 
 -- Holdings, assign rules, revoke rules, then goals.
 unfoldable pub allSaid : Subject → Turned → TypingVerdict
-allSaid subject said = andThen (failingPart Part.Holdings (firstHolding subject said)) (andThen (rulesSaid subject said) (failingPart Part.Goal (firstGoal subject said)))
+allSaid subject said =
+    andThen (failingPart Part.Holdings (firstHolding (subject .holdings) said))
+    (andThen (rulesSaid (subject .policy) said) (failingPart Part.Goal (firstGoal (subject .policy) said)))
 
--- The verdict of a typing on the rules alone, and on everything.
-unfoldable pub judgedRules : Subject → Table → TypingVerdict
-judgedRules subject t = rulesSaid subject (turnedOf t (subject .roles))
+-- The verdict of a typing of so many roles on the rules alone, and on everything.
+unfoldable pub judgedRules : (roles : ℕ) → Policy → Table → TypingVerdict
+judgedRules roles policy t = rulesSaid policy (turnedOf t roles)
 
 unfoldable pub judgedTyping : Subject → Table → TypingVerdict
 judgedTyping subject t = allSaid subject (turnedOf t (subject .roles))
 
 -- The verdict of a typing on the rules of a policy text alone, and on the whole policy.
 unfoldable pub rulesVerdict : Said → Table → TypingVerdict
-rulesVerdict s t = judgedRules (subjectOf s) t
+rulesVerdict s t = judgedRules (length (s .roles)) (policyOf s) t
 
 unfoldable pub typingVerdict : Said → Table → TypingVerdict
 typingVerdict s t = judgedTyping (subjectOf s) t

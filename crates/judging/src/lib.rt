@@ -6,12 +6,12 @@ ghost use lib.ListN.{take};
 ghost use Rattle.roles.specs.declared.RoleSet.{RoleSet as Set};
 ghost use Rattle.sheets.specs.Words.{saidIn};
 ghost use Rattle.rules.specs.Tests.{personPasses, assignPasses, revokePasses, goalPasses};
-ghost use Rattle.judging.specs.Verdict.{firstFailing, subjectIn, failingPart, rulesSaid, judgedRules, judgedTyping, partNumber, pinnedNames};
+ghost use Rattle.judging.specs.Verdict.{firstFailing, policyIn, subjectIn, failingPart, rulesSaid, judgedRules, judgedTyping, partNumber, pinnedNames};
 use model::Assign;
 use model::Person;
 use model::Revoke;
 use model::Typing;
-use reading::policy::Policy;
+use reading::policy::Rules;
 use roles::RoleSet;
 use sheets::lay_out;
 
@@ -154,14 +154,14 @@ fn failing(part: Part, number: usize) -> TypingVerdict
 
 // The verdict on the rules alone, by the typing's sheet: assign rules, then revoke rules.
 fn rules_verdict<'a>(
-    p: Policy,
+    p: Rules,
     plus: &'a [u64; 256],
     minus: &'a [u64; 256],
     needed: &'a [u64; 256],
     opposed: &'a [u64; 256],
     high: RoleSet,
 ) -> TypingVerdict
-    ensures { λ r. ⌜ r ≡ rulesSaid (subjectIn p) (saidIn (now (plus .entry)) (now (minus .entry)) (now (needed .entry)) (now (opposed .entry)) high) ⌝ }
+    ensures { λ r. ⌜ r ≡ rulesSaid (policyIn p) (saidIn (now (plus .entry)) (now (minus .entry)) (now (needed .entry)) (now (opposed .entry)) high) ⌝ }
 {
     let assigns = p.assigns;
     let revokes = p.revokes;
@@ -185,19 +185,18 @@ fn rules_verdict<'a>(
 }
 
 // The verdict on the rules alone: assign rules, then revoke rules.
-pub fn judge_rules(p: Policy, t: Typing) -> TypingVerdict
-    ensures { λ r. ⌜ r ≡ judgedRules (subjectIn p) t ⌝ }
+pub fn judge_rules(p: Rules, t: Typing) -> TypingVerdict
+    ensures { λ r. ⌜ r ≡ judgedRules (p .counts .roles) (policyIn p) t ⌝ }
 {
     let s = lay_out(t, p.counts.roles);
     rules_verdict(p, &s.plus, &s.minus, &s.needed, &s.opposed, s.high)
 }
 
-// The verdict on a typing: holdings, assign rules, revoke rules, then goals.
-pub fn judge_typing(p: Policy, t: Typing) -> TypingVerdict
-    ensures { λ r. ⌜ r ≡ judgedTyping (subjectIn p) t ⌝ }
+// The verdict on a typing, of people with their roles and of rules and goals: holdings, assign rules, revoke rules, then goals.
+pub fn judge_typing(persons: [Person; 64], p: Rules, t: Typing) -> TypingVerdict
+    ensures { λ r. ⌜ r ≡ judgedTyping (subjectIn persons p) t ⌝ }
 {
     let s = lay_out(t, p.counts.roles);
-    let persons = p.persons;
     let goals = p.goals;
     let high = s.high;
     let first = first_holding(persons, p.counts.users, &s.plus, &s.minus, high);

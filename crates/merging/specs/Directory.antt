@@ -1,12 +1,12 @@
 -- Whether two policies are over the same roles in order, the same users in order, with the same clearances and holdings.
 use mathlib.Core.Bool.{Bool, true, false, not, cond, _&&_}
 use mathlib.Core.List.{List, [], _∷_}
+use lib.ListN.{take}
 use Rattle.roles.specs.Sets.{sameSet}
 use Rattle.model.specs.declared.Person.{Person}
 use Rattle.tables.specs.Names.{sameName, rows}
-use Rattle.reading.specs.declared.policy.Policy.{Policy}
+use Rattle.reading.specs.declared.directory.Directory.{Directory}
 use Rattle.reading.specs.Policy.{Said}
-use Rattle.judging.specs.Verdict.{subjectIn}
 
 -- two lists of the same length whose elements are the same, one by one
 unfoldable pub sameLists {ℓ} : {A : Type ℓ} → (A → A → Bool) → List A → List A → Bool
@@ -25,9 +25,9 @@ samePerson p q = sameLabel (p .clearance) (q .clearance) && sameSet (p .roles) (
 unfoldable pub sameDirectory : Said → Said → Bool
 sameDirectory s t = sameLists sameName (s .roles) (t .roles) && sameLists sameName (s .users) (t .users) && sameLists samePerson (s .holdings) (t .holdings)
 
--- Of policies in arrays: as many names of each table, and as many people, as the counts say.
-unfoldable pub sameTables : Policy → Policy → Bool
-sameTables p q =
-    sameLists sameName (rows (p .counts .roles) (p .roles)) (rows (q .counts .roles) (q .roles))
-    && sameLists sameName (rows (p .counts .users) (p .users)) (rows (q .counts .users) (q .users))
-    && sameLists samePerson (subjectIn p .holdings) (subjectIn q .holdings)
+-- Of directories in arrays: as many names of each table, and as many people, as the counts say.
+unfoldable pub sameTables : Directory → Directory → Bool
+sameTables d e =
+    sameLists sameName (rows (d .counts .roles) (d .roles)) (rows (e .counts .roles) (e .roles))
+    && sameLists sameName (rows (d .counts .users) (d .users)) (rows (e .counts .users) (e .users))
+    && sameLists samePerson (take (d .counts .users) (d .persons)) (take (e .counts .users) (e .persons))

@@ -1,24 +1,24 @@
 -- Two policies are over the same directory exactly when roles, users and holdings are equal; and the arrays tell it.
-use Prim.Native.Nat.{ℕ, suc, _*_, _≤_, min}
+use Prim.Native.Nat.{ℕ, suc, _-_, _*_, _≤_}
 use mathlib.Core.Bool.{Bool, true, false, _&&_, true≢false, false≢true, and-false, and-eq-true-iff}
 use mathlib.Core.List.{List, [], _∷_}
 use mathlib.Core.Logic.{_↔_}
 use mathlib.Core.Path.{_≡_, refl, sym, ap, ap₂, subst, _∙_}
 use borrow.Author.Tests.{eq-eqb}
 use lib.Dec.{eqb}
-use lib.ListN.{length, take}
+use lib.ListN.{length, take, replicate}
+use lib.Seq.{take-at}
 use native.Mathlib.Omega.{arith}
 use Rattle.roles.specs.Sets.{sameSet}
 use Rattle.roles.specs.Members.{same-equal, equal-same}
 use Rattle.model.specs.declared.Person.{Person}
+use Rattle.model.specs.Policy.{nobody}
 use Rattle.tables.specs.declared.Name.{Name}
 use Rattle.tables.specs.Names.{sameName, placeOf, rows, rows-length, place-one-to-one}
-use Rattle.reading.specs.declared.policy.Policy.{Policy}
-use Rattle.reading.specs.Policy.{Said, laidOut}
-use Rattle.reading.specs.Reached.{Bounded}
-use Rattle.reading.specs.Told.{roles-laid, users-laid}
-use Rattle.judging.specs.Layout.{subject-laid}
-use Rattle.judging.specs.Verdict.{Subject, subjectIn, subjectOf}
+use Rattle.reading.specs.declared.directory.Directory.{Directory}
+use Rattle.reading.specs.declared.policy.Rules.{Rules}
+use Rattle.reading.specs.Policy.{Said, padded}
+use Rattle.reading.specs.Told.{Laid, roles-listed, users-listed, people-laid}
 use Rattle.merging.specs.Directory.{sameLists, sameLabel, samePerson, sameDirectory, sameTables}
 use Rattle.merging.specs.Comparing.{same-names}
 
@@ -98,16 +98,20 @@ same-exact s s′ = (
 
 -- ---- the same of policies in arrays
 
+-- as many people as were laid out
+people : {s : Said} {D : Directory} {R : Rules} → Laid s D R → take (D .counts .users) (D .persons) ≡ s .holdings
+unfolding padded
+people {s} {D} l =
+    ap (take (D .counts .users)) (people-laid l)
+    ∙ take-at (s .holdings) (replicate (64 - length (s .holdings)) nobody) (D .counts .users) (omega (arith, l .users, l .bounded .holdings))
+
 -- Two policies laid out are over the same directory where their texts are.
-pub directory-laid : {s s′ : Said} {p q : Policy} → Bounded s → Bounded s′ → p ≡ laidOut s → q ≡ laidOut s′ → sameTables p q ≡ sameDirectory s s′
-unfolding sameTables sameDirectory subjectOf
-directory-laid {s} {s′} {p} {q} bounded bounded′ laid laid′ =
+pub directory-laid : {s s′ : Said} {D E : Directory} {P Q : Rules} → Laid s D P → Laid s′ E Q → sameTables D E ≡ sameDirectory s s′
+unfolding sameTables sameDirectory
+directory-laid l l′ =
     ap₂ _&&_
-    (ap₂ _&&_ (ap₂ (sameLists sameName) (roles-laid s bounded laid) (roles-laid s′ bounded′ laid′)) (ap₂ (sameLists sameName) (users-laid s bounded laid) (users-laid s′ bounded′ laid′)))
-    (ap₂ (sameLists samePerson) (people bounded laid) (people bounded′ laid′))
-  where
-    people : {s : Said} {p : Policy} → Bounded s → p ≡ laidOut s → subjectIn p .holdings ≡ s .holdings
-    people b l = ap (λ (x : Subject). x .holdings) (ap subjectIn l ∙ subject-laid b)
+    (ap₂ _&&_ (ap₂ (sameLists sameName) (roles-listed l) (roles-listed l′)) (ap₂ (sameLists sameName) (users-listed l) (users-listed l′)))
+    (ap₂ (sameLists samePerson) (people l) (people l′))
 
 -- ---- how the answer for policies in arrays is found
 
@@ -128,7 +132,7 @@ module _ {m n : ℕ} (one two : List ℕ) where
   pub words-told : m ≡ n → 4 * m ≤ length one → 4 * m ≤ length two → {answer b : Bool} → answer ≡ sameLists eqb (take (4 * m) one) (take (4 * m) two) → answer ≡ b → sameLists sameName (rows m one) (rows n two) ≡ b
   words-told even room other given is = ap (λ (k : ℕ). sameLists sameName (rows m one) (rows k two)) (sym even) ∙ sym (same-names m one two room other) ∙ sym given ∙ is
 
-module _ (p q : Policy) where
+module _ (p q : Directory) where
   -- the role names differ
   pub roles-differ : sameLists sameName (rows (p .counts .roles) (p .roles)) (rows (q .counts .roles) (q .roles)) ≡ false → false ≡ sameTables p q
   unfolding sameTables
@@ -142,10 +146,7 @@ module _ (p q : Policy) where
   -- the same names: the people decide
   pub people-told : sameLists sameName (rows (p .counts .roles) (p .roles)) (rows (q .counts .roles) (q .roles)) ≡ true
       → sameLists sameName (rows (p .counts .users) (p .users)) (rows (q .counts .users) (q .users)) ≡ true
-      → p .counts .users ≡ q .counts .users → p .counts .users ≤ 64
+      → p .counts .users ≡ q .counts .users
       → {answer : Bool} → answer ≡ sameLists samePerson (take (p .counts .users) (p .persons)) (take (p .counts .users) (q .persons)) → answer ≡ sameTables p q
-  unfolding sameTables subjectIn
-  people-told roles users even few given =
-      let one : min (p .counts .users) 64 ≡ p .counts .users = omega arith in
-      let two : min (q .counts .users) 64 ≡ p .counts .users = omega arith in
-      rw (roles, users, one, two) given
+  unfolding sameTables
+  people-told roles users even given = rw (roles, users, ← even) given

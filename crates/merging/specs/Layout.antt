@@ -8,78 +8,60 @@ use Rattle.model.specs.declared.Typing.{Typing as Table}
 use Rattle.tables.specs.declared.Name.{Name}
 use Rattle.tables.specs.Names.{rows}
 use Rattle.lines.specs.declared.Counts.{Counts}
-use Rattle.reading.specs.declared.policy.Policy.{Policy}
+use Rattle.reading.specs.declared.directory.Directory.{Directory}
+use Rattle.reading.specs.declared.policy.Rules.{Rules}
 use Rattle.reading.specs.Texts.{refused}
-use Rattle.reading.specs.Policy.{Said, countsOf, laidOut}
-use Rattle.reading.specs.Reached.{Bounded}
-use Rattle.reading.specs.Told.{Told, counts-laid, roles-laid, tables-laid}
+use Rattle.reading.specs.Policy.{Said, countsOf}
+use Rattle.reading.specs.Told.{Laid, counts-laid, roles-laid, people-laid, tables-laid}
 use Rattle.typings.specs.declared.TypingRead.{TypingRead}
 use Rattle.typings.specs.TypingText.{readTyping, typingRead}
 use Rattle.typings.specs.TypingTold.{TypingTold, typing-told, typing-untold}
 use Rattle.judging.specs.declared.TypingVerdict.{TypingVerdict}
-use Rattle.judging.specs.Verdict.{subjectIn, judgedTyping, judgedRules, typingVerdict, rulesVerdict}
+use Rattle.judging.specs.Verdict.{policyIn, subjectIn, judgedTyping, judgedRules, typingVerdict, rulesVerdict}
 use Rattle.judging.specs.Layout.{typing-laid, rules-laid}
 
 -- ---- a policy text
 
--- What a text says, within the limits, laid out in the arrays.
-pub record Laid (s : Said) (p : Policy) : Type 0 where
-  pub bounded : Bounded s
-  pub laid : p ≡ laidOut s
-
 -- No count is above its limit.
-pub record Limited (p : Policy) : Type 0 where
-  pub roles : p .counts .roles ≤ 128
-  pub users : p .counts .users ≤ 64
-  pub assigns : p .counts .assigns ≤ 256
-  pub revokes : p .counts .revokes ≤ 256
-  pub goals : p .counts .goals ≤ 32
+pub record Limited (c : Counts) : Type 0 where
+  pub roles : c .roles ≤ 128
+  pub assigns : c .assigns ≤ 256
+  pub revokes : c .revokes ≤ 256
+  pub goals : c .goals ≤ 32
 
--- a policy that is read is laid out
-pub told-laid : {text : List ℕ} {p : Policy} (t : Told text p) → Laid (t .said) p
-told-laid t = record { bounded = t .bounded; laid = t .laid }
-
-module _ {s : Said} {p : Policy} (l : Laid s p) where
-  -- the counts and the names are those of the text
-  pub counts-are : p .counts ≡ countsOf s
-  counts-are = counts-laid s (l .bounded) (l .laid)
-
-  pub roles-are : p .counts .roles ≡ length (s .roles)
-  unfolding countsOf
-  roles-are = ap (λ (c : Counts). c .roles) counts-are
-
-  pub names-are : rows (p .counts .roles) (p .roles) ≡ s .roles
-  names-are = roles-laid s (l .bounded) (l .laid)
-
+module _ {s : Said} {D : Directory} {R : Rules} (l : Laid s D R) where
   -- the counts are within the limits
-  pub limited : Limited p
+  pub limited : Limited (R .counts)
   unfolding countsOf
   limited = record {
-    roles = omega (arith, ap (λ (c : Counts). c .roles) counts-are, l .bounded .roles);
-    users = omega (arith, ap (λ (c : Counts). c .users) counts-are, l .bounded .users);
-    assigns = omega (arith, ap (λ (c : Counts). c .assigns) counts-are, l .bounded .assigns);
-    revokes = omega (arith, ap (λ (c : Counts). c .revokes) counts-are, l .bounded .revokes);
-    goals = omega (arith, ap (λ (c : Counts). c .goals) counts-are, l .bounded .goals);
+    roles = omega (arith, ap (λ (c : Counts). c .roles) (counts-laid l), l .bounded .roles);
+    assigns = omega (arith, ap (λ (c : Counts). c .assigns) (counts-laid l), l .bounded .assigns);
+    revokes = omega (arith, ap (λ (c : Counts). c .revokes) (counts-laid l), l .bounded .revokes);
+    goals = omega (arith, ap (λ (c : Counts). c .goals) (counts-laid l), l .bounded .goals);
   }
 
+  -- what a comparison of directories asks of the counts
+  pub few : (D .counts .roles ≤ 128) × (D .counts .users ≤ 64)
+  few = (omega (arith, l .roles, l .bounded .roles), omega (arith, l .users, l .bounded .users))
+
   -- what a reader and a writer of typings ask of the table
-  pub table-room : (4 * p .counts .roles ≤ length (p .roles)) × (p .counts .roles ≤ 128)
-  table-room = let room = tables-laid s (l .bounded) (l .laid) in (room .0, room .1)
+  pub table-room : (4 * R .counts .roles ≤ length (D .roles)) × (R .counts .roles ≤ 128)
+  table-room = let room = tables-laid l in (room .0, room .1)
 
   -- a verdict on the arrays is that on the text
   module _ (t : Table) {verdict : TypingVerdict} where
-    pub verdict-told : judgedTyping (subjectIn p) t ≡ verdict → typingVerdict s t ≡ verdict
-    verdict-told is = sym (ap (λ (q : Policy). judgedTyping (subjectIn q) t) (l .laid) ∙ typing-laid t (l .bounded)) ∙ is
+    pub verdict-told : judgedTyping (subjectIn (D .persons) R) t ≡ verdict → typingVerdict s t ≡ verdict
+    verdict-told is = sym (ap (λ (r : Rules). judgedTyping (subjectIn (D .persons) r) t) (l .rules) ∙ typing-laid t (l .bounded) (people-laid l)) ∙ is
 
-    pub rules-told : judgedRules (subjectIn p) t ≡ verdict → rulesVerdict s t ≡ verdict
-    rules-told is = sym (ap (λ (q : Policy). judgedRules (subjectIn q) t) (l .laid) ∙ rules-laid t (l .bounded)) ∙ is
+    pub rules-told : judgedRules (R .counts .roles) (policyIn R) t ≡ verdict → rulesVerdict s t ≡ verdict
+    rules-told is = sym (ap (λ (r : Rules). judgedRules (r .counts .roles) (policyIn r) t) (l .rules) ∙ rules-laid t (l .bounded)) ∙ is
 
 -- ---- a typing text
 
-module _ {s : Said} {p : Policy} (l : Laid s p) (text : List ℕ) {T : TypingRead} (given : T ≡ typingRead (rows (p .counts .roles) (p .roles)) text) where
+module _ {s : Said} {D : Directory} {R : Rules} (l : Laid s D R) (text : List ℕ) {T : TypingRead} (given : T ≡ typingRead (rows (R .counts .roles) (D .roles)) text) where
   -- over the names of the text
   over : T ≡ typingRead (s .roles) text
-  over = given ∙ ap (λ (names : List Name). typingRead names text) (names-are l)
+  over = given ∙ ap (λ (names : List Name). typingRead names text) (roles-laid l)
 
   -- no refusal: the text is read
   pub typing-read : T .refusal ≡ 0 → TypingTold (s .roles) text T

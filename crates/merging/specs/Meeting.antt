@@ -8,14 +8,10 @@ use lib.ListN.{length}
 use native.Mathlib.Omega.{arith}
 use Rattle.model.specs.declared.Typing.{Typing as Table}
 use Rattle.tables.specs.declared.Name.{Name}
-use Rattle.tables.specs.Names.{rows}
-use Rattle.reading.specs.declared.policy.Policy.{Policy}
 use Rattle.reading.specs.Texts.{Reading, read, refused}
-use Rattle.reading.specs.Policy.{Said}
 use Rattle.writing.specs.Written.{put}
 use Rattle.spelling.specs.TypingText.{typingText}
 use Rattle.merging.specs.Outcome.{Outcome, leaves, writes, answerIn, bufferAfter, whenRead, fits, fitting, Meets}
-use Rattle.merging.specs.Layout.{Laid, names-are}
 
 module _ {A : Type 0} {before : List ℕ} {answer : A} where
   -- the same outcome told in another way
@@ -68,10 +64,10 @@ pub text-some : (names : List Name) (t : Table) → 0 < length (typingText names
 unfolding typingText
 text-some names t = omega arith
 
--- the names of a policy that is laid out are those of its text
-pub met-said : {s : Said} {p : Policy} → Laid s p → (t : Table) (room : ℕ) {before after : List ℕ} {number : ℕ} → Meets (fitting room (typingText (rows (p .counts .roles) (p .roles)) t)) before number after
-    → Meets (fitting room (typingText (s .roles) t)) before number after
-met-said l t room {before} {after} {number} met = subst (λ (names : List Name). Meets (fitting room (typingText names t)) before number after) (names-are l) met
+-- a text over equal names
+pub met-named : {names names′ : List Name} → names ≡ names′ → (t : Table) (room : ℕ) {before after : List ℕ} {number : ℕ} → Meets (fitting room (typingText names t)) before number after
+    → Meets (fitting room (typingText names′ t)) before number after
+met-named same t room {before} {after} {number} met = subst (λ (names : List Name). Meets (fitting room (typingText names t)) before number after) same met
 
 -- An answer by the length that is written, where no text has the length 0.
 module _ {A : Type 0} (room : ℕ) (text : List ℕ) (some : 0 < length text) {before after : List ℕ} {number : ℕ} (success refusal : A) where

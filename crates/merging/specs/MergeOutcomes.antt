@@ -2,27 +2,29 @@
 use Prim.Native.Nat.{ℕ, _+_, _<_, _≤_}
 use mathlib.Core.Bool.{Bool, true, false, and-false}
 use mathlib.Core.List.{List}
-use mathlib.Core.Path.{_≡_, sym, ap₂, _∙_}
+use mathlib.Core.Path.{_≡_, sym, ap, ap₂, _∙_}
 use borrow.Author.Tests.{le-leb, lt-leb}
 use lib.ListN.{length}
 use Rattle.model.specs.declared.Typing.{Typing as Table}
-use Rattle.tables.specs.Names.{rows}
+use Rattle.tables.specs.declared.Name.{Name}
 use Rattle.lines.specs.declared.Counts.{Counts}
-use Rattle.reading.specs.declared.policy.Policy.{Policy}
+use Rattle.reading.specs.declared.directory.Directory.{Directory}
+use Rattle.reading.specs.declared.policy.Rules.{Rules}
 use Rattle.reading.specs.Texts.{read, refused}
 use Rattle.reading.specs.Policy.{Said, countsOf, readPolicy}
+use Rattle.reading.specs.Told.{Laid}
 use Rattle.typings.specs.TypingText.{Typed, readTyping, tableOf}
 use Rattle.judging.specs.declared.Part.{Part}
 use Rattle.judging.specs.declared.TypingVerdict.{TypingVerdict}
-use Rattle.judging.specs.Verdict.{subjectIn, judgedTyping, judgedRules, pinnedNames}
+use Rattle.judging.specs.Verdict.{policyIn, subjectIn, judgedTyping, judgedRules, pinnedNames}
 use Rattle.spelling.specs.TypingText.{typingText}
 use Rattle.merging.specs.declared.MergeAnswer.{MergeAnswer}
 use Rattle.merging.specs.Sums.{sumOf}
 use Rattle.merging.specs.Directory.{sameDirectory, sameTables}
 use Rattle.merging.specs.DirectoryLaws.{directory-laid}
 use Rattle.merging.specs.Outcome.{leaves, fitting, Meets}
-use Rattle.merging.specs.Meeting.{meets-as, when-read, when-refused, text-some, met-said, none-written, all-written}
-use Rattle.merging.specs.Layout.{Laid, counts-are, roles-are, verdict-told, rules-told}
+use Rattle.merging.specs.Meeting.{meets-as, when-read, when-refused, text-some, met-named, none-written, all-written}
+use Rattle.merging.specs.Layout.{verdict-told, rules-told}
 use Rattle.merging.specs.Merge.{whenSame, whenAccepted, countsFit, mergeWritten, mergeCounted, mergeJudged, mergeOutcome}
 
 -- ---- the four texts
@@ -57,89 +59,93 @@ module _ (policy₁ typing₁ policy₂ typing₂ : List ℕ) (room : ℕ) where
 
 -- ---- the directories and the four judgings
 
-module _ {s s′ : Said} {p q : Policy} (l : Laid s p) (l′ : Laid s′ q) (t u : Table) (room : ℕ) where
+module _ {s s′ : Said} {D E : Directory} {p q : Rules} (l : Laid s D p) (l′ : Laid s′ E q) (t u : Table) (room : ℕ) where
   -- the arrays tell whether the directories are the same
-  same-told : {b : Bool} → sameTables p q ≡ b → sameDirectory s s′ ≡ b
-  same-told is = sym (directory-laid (l .bounded) (l′ .bounded) (l .laid) (l′ .laid)) ∙ is
+  same-told : {b : Bool} → sameTables D E ≡ b → sameDirectory s s′ ≡ b
+  same-told is = sym (directory-laid l l′) ∙ is
 
   -- 17
-  pub directories-differ : sameTables p q ≡ false → whenSame s s′ (mergeJudged room s t s′ u) ≡ leaves (MergeAnswer.Refused 0 17 0)
+  pub directories-differ : sameTables D E ≡ false → whenSame s s′ (mergeJudged room s t s′ u) ≡ leaves (MergeAnswer.Refused 0 17 0)
   unfolding whenSame
   directories-differ differ = rw (same-told differ)
 
-  module _ (same : sameTables p q ≡ true) where
+  module _ (same : sameTables D E ≡ true) where
     -- typing one fails on policy one, typing two on policy two, typing one on rules two, or typing two on rules one
-    pub fails-one : {part : Part} {number : ℕ} → judgedTyping (subjectIn p) t ≡ TypingVerdict.Fails part number → whenSame s s′ (mergeJudged room s t s′ u) ≡ leaves (MergeAnswer.Unproved 1 part number)
+    pub fails-one : {part : Part} {number : ℕ} → judgedTyping (subjectIn (D .persons) p) t ≡ TypingVerdict.Fails part number → whenSame s s′ (mergeJudged room s t s′ u) ≡ leaves (MergeAnswer.Unproved 1 part number)
     unfolding whenSame mergeJudged whenAccepted
     fails-one one = rw (same-told same, verdict-told l t one)
 
-    module _ (one : judgedTyping (subjectIn p) t ≡ TypingVerdict.Accepted) where
-      pub fails-two : {part : Part} {number : ℕ} → judgedTyping (subjectIn q) u ≡ TypingVerdict.Fails part number → whenSame s s′ (mergeJudged room s t s′ u) ≡ leaves (MergeAnswer.Unproved 2 part number)
+    module _ (one : judgedTyping (subjectIn (D .persons) p) t ≡ TypingVerdict.Accepted) where
+      pub fails-two : {part : Part} {number : ℕ} → judgedTyping (subjectIn (E .persons) q) u ≡ TypingVerdict.Fails part number → whenSame s s′ (mergeJudged room s t s′ u) ≡ leaves (MergeAnswer.Unproved 2 part number)
       unfolding whenSame mergeJudged whenAccepted
       fails-two two = rw (same-told same, verdict-told l t one, verdict-told l′ u two)
 
-      module _ (two : judgedTyping (subjectIn q) u ≡ TypingVerdict.Accepted) where
-        pub fails-three : {part : Part} {number : ℕ} → judgedRules (subjectIn q) t ≡ TypingVerdict.Fails part number → whenSame s s′ (mergeJudged room s t s′ u) ≡ leaves (MergeAnswer.Unproved 3 part number)
+      module _ (two : judgedTyping (subjectIn (E .persons) q) u ≡ TypingVerdict.Accepted) where
+        pub fails-three : {part : Part} {number : ℕ} → judgedRules (q .counts .roles) (policyIn q) t ≡ TypingVerdict.Fails part number → whenSame s s′ (mergeJudged room s t s′ u) ≡ leaves (MergeAnswer.Unproved 3 part number)
         unfolding whenSame mergeJudged whenAccepted
         fails-three three = rw (same-told same, verdict-told l t one, verdict-told l′ u two, rules-told l′ t three)
 
-        module _ (three : judgedRules (subjectIn q) t ≡ TypingVerdict.Accepted) where
-          pub fails-four : {part : Part} {number : ℕ} → judgedRules (subjectIn p) u ≡ TypingVerdict.Fails part number → whenSame s s′ (mergeJudged room s t s′ u) ≡ leaves (MergeAnswer.Unproved 4 part number)
+        module _ (three : judgedRules (q .counts .roles) (policyIn q) t ≡ TypingVerdict.Accepted) where
+          pub fails-four : {part : Part} {number : ℕ} → judgedRules (p .counts .roles) (policyIn p) u ≡ TypingVerdict.Fails part number → whenSame s s′ (mergeJudged room s t s′ u) ≡ leaves (MergeAnswer.Unproved 4 part number)
           unfolding whenSame mergeJudged whenAccepted
           fails-four four = rw (same-told same, verdict-told l t one, verdict-told l′ u two, rules-told l′ t three, rules-told l u four)
 
           -- none fails
-          pub all-accepted : judgedRules (subjectIn p) u ≡ TypingVerdict.Accepted → whenSame s s′ (mergeJudged room s t s′ u) ≡ mergeCounted room s s′ (sumOf t u)
+          pub all-accepted : judgedRules (p .counts .roles) (policyIn p) u ≡ TypingVerdict.Accepted → whenSame s s′ (mergeJudged room s t s′ u) ≡ mergeCounted room s s′ (sumOf t u)
           unfolding whenSame mergeJudged whenAccepted
           all-accepted four = rw (same-told same, verdict-told l t one, verdict-told l′ u two, rules-told l′ t three, rules-told l u four)
 
 -- ---- the joint counts and the text of the sum
 
-module _ {s s′ : Said} {p q : Policy} (l : Laid s p) (l′ : Laid s′ q) (t : Table) (room : ℕ) where
+module _ (s s′ : Said) {p q : Counts} (one : p ≡ countsOf s) (two : q ≡ countsOf s′) (t : Table) (room : ℕ) where
   -- the joint counts are those of the texts
-  assigns-are : length (s .assigns) + length (s′ .assigns) ≡ p .counts .assigns + q .counts .assigns
+  assigns-are : length (s .assigns) + length (s′ .assigns) ≡ p .assigns + q .assigns
   unfolding countsOf
-  assigns-are = sym (ap₂ (λ (c d : Counts). c .assigns + d .assigns) (counts-are l) (counts-are l′))
+  assigns-are = sym (ap₂ (λ (c d : Counts). c .assigns + d .assigns) one two)
 
-  revokes-are : length (s .revokes) + length (s′ .revokes) ≡ p .counts .revokes + q .counts .revokes
+  revokes-are : length (s .revokes) + length (s′ .revokes) ≡ p .revokes + q .revokes
   unfolding countsOf
-  revokes-are = sym (ap₂ (λ (c d : Counts). c .revokes + d .revokes) (counts-are l) (counts-are l′))
+  revokes-are = sym (ap₂ (λ (c d : Counts). c .revokes + d .revokes) one two)
 
-  goals-are : length (s .goals) + length (s′ .goals) ≡ p .counts .goals + q .counts .goals
+  goals-are : length (s .goals) + length (s′ .goals) ≡ p .goals + q .goals
   unfolding countsOf
-  goals-are = sym (ap₂ (λ (c d : Counts). c .goals + d .goals) (counts-are l) (counts-are l′))
+  goals-are = sym (ap₂ (λ (c d : Counts). c .goals + d .goals) one two)
+
+  roles-are : p .roles ≡ length (s .roles)
+  unfolding countsOf
+  roles-are = ap (λ (c : Counts). c .roles) one
 
   -- 19: one of them is above its limit
-  pub assigns-above : 256 < p .counts .assigns + q .counts .assigns → mergeCounted room s s′ t ≡ leaves (MergeAnswer.Refused 0 19 0)
+  pub assigns-above : 256 < p .assigns + q .assigns → mergeCounted room s s′ t ≡ leaves (MergeAnswer.Refused 0 19 0)
   unfolding mergeCounted countsFit
-  assigns-above above = rw (assigns-are, lt-leb (p .counts .assigns + q .counts .assigns) 256 above)
+  assigns-above above = rw (assigns-are, lt-leb (p .assigns + q .assigns) 256 above)
 
-  pub revokes-above : 256 < p .counts .revokes + q .counts .revokes → mergeCounted room s s′ t ≡ leaves (MergeAnswer.Refused 0 19 0)
+  pub revokes-above : 256 < p .revokes + q .revokes → mergeCounted room s s′ t ≡ leaves (MergeAnswer.Refused 0 19 0)
   unfolding mergeCounted countsFit
-  revokes-above above = rw (revokes-are, lt-leb (p .counts .revokes + q .counts .revokes) 256 above, and-false)
+  revokes-above above = rw (revokes-are, lt-leb (p .revokes + q .revokes) 256 above, and-false)
 
-  pub goals-above : 32 < p .counts .goals + q .counts .goals → mergeCounted room s s′ t ≡ leaves (MergeAnswer.Refused 0 19 0)
+  pub goals-above : 32 < p .goals + q .goals → mergeCounted room s s′ t ≡ leaves (MergeAnswer.Refused 0 19 0)
   unfolding mergeCounted countsFit
-  goals-above above = rw (goals-are, lt-leb (p .counts .goals + q .counts .goals) 32 above, and-false)
+  goals-above above = rw (goals-are, lt-leb (p .goals + q .goals) 32 above, and-false)
 
-  module _ (assigns : p .counts .assigns + q .counts .assigns ≤ 256) (revokes : p .counts .revokes + q .counts .revokes ≤ 256) (goals : p .counts .goals + q .counts .goals ≤ 32) where
+  module _ (assigns : p .assigns + q .assigns ≤ 256) (revokes : p .revokes + q .revokes ≤ 256) (goals : p .goals + q .goals ≤ 32) where
     -- none of them is
     counts-fit : mergeCounted room s s′ t ≡ mergeWritten room s s′ t
     unfolding mergeCounted countsFit
     counts-fit =
-        rw (assigns-are, revokes-are, goals-are, le-leb (p .counts .assigns + q .counts .assigns) 256 assigns, le-leb (p .counts .revokes + q .counts .revokes) 256 revokes, le-leb (p .counts .goals + q .counts .goals) 32 goals)
+        rw (assigns-are, revokes-are, goals-are, le-leb (p .assigns + q .assigns) 256 assigns, le-leb (p .revokes + q .revokes) 256 revokes, le-leb (p .goals + q .goals) 32 goals)
 
-    module _ {before after : List ℕ} {number : ℕ} (met : Meets (fitting room (typingText (rows (p .counts .roles) (p .roles)) t)) before number after) where
+    module _ {names : List Name} (named : names ≡ s .roles) {before after : List ℕ} {number : ℕ} (met : Meets (fitting room (typingText names t)) before number after) where
       -- 18: the text does not fit
       pub merge-unwritten : number ≡ 0 → Meets (mergeCounted room s s′ t) before (MergeAnswer.Refused 0 18 0) after
       unfolding mergeWritten
-      merge-unwritten none = meets-as counts-fit (none-written room (typingText (s .roles) t) (text-some (s .roles) t) _ _ (met-said l t room met) none)
+      merge-unwritten none = meets-as counts-fit (none-written room (typingText (s .roles) t) (text-some (s .roles) t) _ _ (met-named named t room met) none)
 
       -- the text is written
-      pub merge-written : (number ≡ 0 → ⊥) → {pinned : ℕ} → pinned ≡ pinnedNames t (p .counts .roles)
+      pub merge-written : (number ≡ 0 → ⊥) → {pinned : ℕ} → pinned ≡ pinnedNames t (p .roles)
           → Meets (mergeCounted room s s′ t) before
-          (MergeAnswer.Merged (p .counts .roles) (p .counts .assigns + q .counts .assigns) (p .counts .revokes + q .counts .revokes) (p .counts .goals + q .counts .goals) pinned number) after
+          (MergeAnswer.Merged (p .roles) (p .assigns + q .assigns) (p .revokes + q .revokes) (p .goals + q .goals) pinned number) after
       unfolding mergeWritten
       merge-written some many =
           meets-as counts-fit
-          (all-written room (typingText (s .roles) t) (text-some (s .roles) t) _ _ (met-said l t room met) some (λ long. rw (assigns-are, revokes-are, goals-are, ← roles-are l, many, long)))
+          (all-written room (typingText (s .roles) t) (text-some (s .roles) t) _ _ (met-named named t room met) some (λ long. rw (assigns-are, revokes-are, goals-are, ← roles-are, many, long)))

@@ -5,7 +5,7 @@ ghost use lib.Dec.{eqb};
 ghost use lib.ListN.{length, take};
 ghost use Rattle.merging.specs.Directory.{sameLists, samePerson, sameTables};
 use model::Person;
-use reading::policy::Policy;
+use reading::directory::Directory;
 
 // Whether so many first words of two tables are the same.
 fn same_words(one: &[u64], two: &[u64], count: usize) -> bool
@@ -47,30 +47,30 @@ fn same_people(one: [Person; 64], two: [Person; 64], count: usize) -> bool
     true
 }
 
-// Whether two policies are over the same roles in order, the same users in order, with the same clearances and holdings.
-pub fn same_directory(p: Policy, q: Policy) -> bool
-    requires { ⌜ (p .counts .roles ≤ 128) × (p .counts .users ≤ 64) ⌝ }
-    ensures { λ r. ⌜ r ≡ sameTables p q ⌝ }
+// Whether two directories have the same roles in order and the same users in order, with the same clearances and holdings.
+pub fn same_directory(d: Directory, e: Directory) -> bool
+    requires { ⌜ (d .counts .roles ≤ 128) × (d .counts .users ≤ 64) ⌝ }
+    ensures { λ r. ⌜ r ≡ sameTables d e ⌝ }
 {
-    let roles = p.counts.roles;
-    let users = p.counts.users;
-    if roles != q.counts.roles {
+    let roles = d.counts.roles;
+    let users = d.counts.users;
+    if roles != e.counts.roles {
         return false;
     }
-    if users != q.counts.users {
+    if users != e.counts.users {
         return false;
     }
-    let names = p.roles;
-    let others = q.roles;
+    let names = d.roles;
+    let others = e.roles;
     if !same_words(&names, &others, 4 * roles) {
         return false;
     }
-    let names = p.users;
-    let others = q.users;
+    let names = d.users;
+    let others = e.users;
     if !same_words(&names, &others, 4 * users) {
         return false;
     }
-    let people = p.persons;
-    let others = q.persons;
+    let people = d.persons;
+    let others = e.persons;
     same_people(people, others, users)
 }

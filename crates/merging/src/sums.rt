@@ -1,8 +1,8 @@
 // The sum of two typings: role by role, as a text, and asked for alone.
 ghost use mathlib.Core.Path.{_≡_};
 ghost use lib.ListN.{length};
-ghost use Rattle.reading.specs.Policy.{Said};
-ghost use Rattle.merging.specs.Layout.{Laid, Limited};
+ghost use Prim.Native.Nat.{_*_, _≤_};
+ghost use Rattle.tables.specs.Names.{rows};
 ghost use Rattle.merging.specs.Outcome.{Meets};
 ghost use Rattle.merging.specs.Sum.{sumWritten, sumOutcome};
 ghost use Rattle.merging.specs.Sums.{sumOf};
@@ -10,8 +10,8 @@ use crate::SumAnswer;
 use crate::fitting::write_fitting;
 use judging::pinned;
 use model::Typing;
-use reading::policy::Policy;
-use reading::policy::read_policy;
+use reading::directory::read_directory;
+use reading::policy::read_rules;
 use typings::read_typing;
 
 // The sum of two typings: a label is H when either is H, and plus and minus sets are unions.
@@ -33,14 +33,12 @@ pub fn sum_of(t: Typing, u: Typing) -> Typing
     s
 }
 
-// The sum of two typings over a policy, written where its text fits; 18 where it does not.
-fn write_sum(p: Policy, t: Typing, out: &mut [u8]) -> SumAnswer
-    requires { ⌜ Limited p ⌝ }
-    ensures { λ r. ⌜ ((s : Said) → Laid s p → Meets (sumWritten (length (now (out .entry))) (s .roles) t) (now (out .entry)) r (now (out .exit))) ⌝ }
+// The sum of two typings over so many role names, written where its text fits; 18 where it does not.
+fn write_sum(names: &[u64], roles: usize, t: Typing, out: &mut [u8]) -> SumAnswer
+    requires { ⌜ (4 * roles ≤ length (now names)) × (roles ≤ 128) ⌝ }
+    ensures { λ r. ⌜ Meets (sumWritten (length (now (out .entry))) (rows roles (now (names .entry))) t) (now (out .entry)) r (now (out .exit)) ⌝ }
 {
-    let roles = p.counts.roles;
-    let names = p.roles;
-    let length = write_fitting(out, &names, roles, t);
+    let length = write_fitting(out, names, roles, t);
     if length == 0 {
         return SumAnswer::Refused(0, 18, 0);
     }
@@ -51,21 +49,24 @@ fn write_sum(p: Policy, t: Typing, out: &mut [u8]) -> SumAnswer
 pub fn sum(policy: &[u8], first: &[u8], second: &[u8], out: &mut [u8]) -> SumAnswer
     ensures { λ r. ⌜ Meets (sumOutcome (now (policy .entry)) (now (first .entry)) (now (second .entry)) (length (now (out .entry)))) (now (out .entry)) r (now (out .exit)) ⌝ }
 {
-    let p = read_policy(policy);
-    if p.refusal != 0 {
-        return SumAnswer::Refused(1, p.refusal, p.line);
+    let d = read_directory(policy);
+    if d.refusal != 0 {
+        return SumAnswer::Refused(1, d.refusal, d.line);
     }
-    let roles = p.counts.roles;
-    let names = p.roles;
-    let one = read_typing(first, &names, roles);
+    let r = read_rules(policy, &d.roles, &d.users, d.counts, d.at, d.line);
+    if r.refusal != 0 {
+        return SumAnswer::Refused(1, r.refusal, r.line);
+    }
+    let roles = r.counts.roles;
+    let one = read_typing(first, &d.roles, roles);
     if one.refusal != 0 {
         return SumAnswer::Refused(2, one.refusal, one.line);
     }
-    let two = read_typing(second, &names, roles);
+    let two = read_typing(second, &d.roles, roles);
     if two.refusal != 0 {
         return SumAnswer::Refused(3, two.refusal, two.line);
     }
     let t = one.typing;
     let u = two.typing;
-    write_sum(p, sum_of(t, u), out)
+    write_sum(&d.roles, roles, sum_of(t, u), out)
 }

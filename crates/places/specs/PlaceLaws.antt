@@ -15,10 +15,10 @@ use Rattle.text.specs.Pieces.{part, sameBytes, Sought}
 use Rattle.reading.specs.Texts.{Reading, read, refused}
 use Rattle.tables.specs.Names.{rows}
 use Rattle.lines.specs.declared.Counts.{Counts}
-use Rattle.reading.specs.declared.policy.Policy.{Policy}
-use Rattle.reading.specs.Policy.{Said, countsOf, laidOut, readPolicy}
-use Rattle.reading.specs.Reached.{Bounded}
-use Rattle.reading.specs.Told.{counts-laid, roles-laid, users-laid}
+use Rattle.reading.specs.declared.directory.Directory.{Directory}
+use Rattle.reading.specs.declared.policy.Rules.{Rules}
+use Rattle.reading.specs.Policy.{Said, countsOf, readPolicy}
+use Rattle.reading.specs.Told.{Told, counts-laid, roles-laid, users-laid}
 use Rattle.typings.specs.declared.TypingRead.{TypingRead}
 use Rattle.traces.specs.declared.TraceRead.{TraceRead}
 use Rattle.places.specs.declared.Refusal.{Refusal}
@@ -62,18 +62,18 @@ pub after-refused : (policy evidence : List ℕ) {number line : ℕ} → readPol
 unfolding refusalOf refusalAfter
 after-refused policy evidence is = sym (ap (λ (r : Reading Said). refusalAfter r evidence) is)
 
-pub after-read : (policy evidence : List ℕ) {s : Said} → readPolicy policy ≡ read s → refusedOver (length (s .assigns)) (length (s .revokes)) (s .roles) (s .users) evidence ≡ refusalOf policy evidence
+after-read : (policy evidence : List ℕ) {s : Said} → readPolicy policy ≡ read s → refusedOver (length (s .assigns)) (length (s .revokes)) (s .roles) (s .users) evidence ≡ refusalOf policy evidence
 unfolding refusalOf refusalAfter
 after-read policy evidence is = sym (ap (λ (r : Reading Said). refusalAfter r evidence) is)
 
--- the evidence over a policy that is laid out
-pub over-laid : (s : Said) (bounded : Bounded s) {p : Policy} → p ≡ laidOut s → (evidence : List ℕ)
-    → refusedOver (p .counts .assigns) (p .counts .revokes) (rows (p .counts .roles) (p .roles)) (rows (p .counts .users) (p .users)) evidence
-    ≡ refusedOver (length (s .assigns)) (length (s .revokes)) (s .roles) (s .users) evidence
+-- the evidence over the records of a policy that is read
+pub over-told : {policy : List ℕ} {D : Directory} {R : Rules} → Told policy D R → (evidence : List ℕ)
+    → refusedOver (R .counts .assigns) (R .counts .revokes) (rows (R .counts .roles) (D .roles)) (rows (R .counts .users) (D .users)) evidence ≡ refusalOf policy evidence
 unfolding countsOf
-over-laid s bounded {p} laid evidence =
-    ap₂ (λ (rs us : List Name). refusedOver (p .counts .assigns) (p .counts .revokes) rs us evidence) (roles-laid s bounded laid) (users-laid s bounded laid)
-    ∙ ap (λ (c : Counts). refusedOver (c .assigns) (c .revokes) (s .roles) (s .users) evidence) (counts-laid s bounded laid)
+over-told {policy} {D} {R} t evidence =
+    ap₂ (λ (rs us : List Name). refusedOver (R .counts .assigns) (R .counts .revokes) rs us evidence) (roles-laid (t .laid)) (users-laid (t .laid))
+    ∙ ap (λ (c : Counts). refusedOver (c .assigns) (c .revokes) (t .said .roles) (t .said .users) evidence) (counts-laid (t .laid))
+    ∙ after-read policy evidence (t .is)
 
 -- ---- going from line to line
 

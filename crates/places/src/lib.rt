@@ -5,7 +5,8 @@ ghost use lib.ListN.{length};
 ghost use Rattle.tables.specs.Names.{rows};
 ghost use Rattle.places.specs.Place.{isTyping, refusedOver, refusalOf, noSpan, spanOf, badSpan, badPlace, badLine};
 use lines::Counts;
-use reading::policy::read_policy;
+use reading::directory::read_directory;
+use reading::policy::read_rules;
 use traces::read_trace;
 use typings::read_typing;
 
@@ -60,15 +61,21 @@ pub fn evidence_refusal<'a>(text: &[u8], roles: &'a [u64], users: &'a [u64], c: 
 pub fn refusal_of(policy: &[u8], evidence: &[u8]) -> Refusal
     ensures { λ r. ⌜ r ≡ refusalOf (now (policy .entry)) (now (evidence .entry)) ⌝ }
 {
-    let p = read_policy(policy);
-    if p.refusal != 0 {
+    let d = read_directory(policy);
+    if d.refusal != 0 {
         return Refusal {
-            number: p.refusal,
-            line: p.line,
+            number: d.refusal,
+            line: d.line,
         };
     }
-    let c = p.counts;
-    evidence_refusal(evidence, &p.roles, &p.users, c)
+    let r = read_rules(policy, &d.roles, &d.users, d.counts, d.at, d.line);
+    if r.refusal != 0 {
+        return Refusal {
+            number: r.refusal,
+            line: r.line,
+        };
+    }
+    evidence_refusal(evidence, &d.roles, &d.users, r.counts)
 }
 
 // No line.

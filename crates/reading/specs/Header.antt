@@ -28,7 +28,7 @@ header-short text short = go (hasHeader text) refl
     go true is = absurd (omega (arith, ap length (same-equal (take 8 text) (bytes "arbac\t1\n") is), length-take 8 text))
 
 -- the first of several pieces, then the separator and the bytes of the others
-first-piece : (mark : ℕ) (s : List ℕ) {a b : List ℕ} {more : List (List ℕ)} → split mark s ≡ a ∷ b ∷ more → (rest : List ℕ) × (s ≡ a ++ (mark ∷ rest)) × (split mark rest ≡ b ∷ more)
+pub first-piece : (mark : ℕ) (s : List ℕ) {a b : List ℕ} {more : List (List ℕ)} → split mark s ≡ a ∷ b ∷ more → (rest : List ℕ) × (s ≡ a ++ (mark ∷ rest)) × (split mark rest ≡ b ∷ more)
 unfolding split onto
 first-piece mark [] e = absurd (true≢false (cc))
 first-piece mark (byte ∷ s) {a} {b} {more} e = go (eqb byte mark) refl e (split-piece mark s) (λ p one. first-piece mark s one)

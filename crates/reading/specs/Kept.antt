@@ -14,7 +14,7 @@ use Rattle.lines.specs.declared.PolicyLine.{PolicyLine}
 use Rattle.reading.specs.Texts.{Judged, goes, ends, bad, Reading, read, refused, closing, onward, readLines, readText}
 use Rattle.lines.specs.Lines.{policyLine, Fitting, good-fits}
 use Rattle.reading.specs.Policy.{Said, nothing, countsOf, added, entered, answered, judgeLine, readPolicy}
-use Rattle.reading.specs.Reached.{Bounded, bounded-nothing, bounded-added}
+use Rattle.reading.specs.Bounded.{Bounded, bounded-nothing, bounded-added}
 
 module _ {S : Type 0} (judge : S → List ℕ → Judged S) (malformed : ℕ) (Good : S → Type 0) (keeps : (s t : S) (line : List ℕ) → judge s line ≡ goes t → Good s → Good t) where
   -- a refusal is no reading
@@ -38,7 +38,7 @@ module _ {S : Type 0} (judge : S → List ℕ → Judged S) (malformed : ℕ) (G
   onward-keeps ends s t line below reading is next more good = closing-keeps s t (suc line) below is good
   onward-keeps (bad number) s t line below reading is next more good = absurd (apart is)
 
-  lines-keep : (s t : S) (line : ℕ) (pieces : List (List ℕ)) → readLines judge malformed s line pieces ≡ read t → Good s → Good t
+  pub lines-keep : (s t : S) (line : ℕ) (pieces : List (List ℕ)) → readLines judge malformed s line pieces ≡ read t → Good s → Good t
   unfolding readLines
   lines-keep s t line [] is good = absurd (apart is)
   lines-keep s t line (tail ∷ []) is good = absurd (apart is)

@@ -1,12 +1,21 @@
 -- How a text is read line by line, what a policy text is read into, and when any piece of evidence is refused.
 pub mod Texts
 pub mod Policy
+pub mod Directory
+pub mod Rules
 pub mod Walk
-pub mod Reached
+pub mod Storing
+pub mod Bounded
 pub mod Kept
 pub mod Exact
 pub mod Evidence
 pub mod PolicyExact
-pub mod Told
 pub mod Header
+pub mod Order
+pub mod Between
+pub mod Leading
+pub mod DirectoryReached
+pub mod Opened
+pub mod RulesReached
+pub mod Told
 pub mod Worked

@@ -1,4 +1,4 @@
--- A whole policy text: what each line adds, and the record that the text is read into.
+-- A whole policy text: what each line adds, and how a list is laid out in an array.
 use Prim.Native.Nat.{ℕ, zero, suc, _-_}
 use mathlib.Core.Bool.{Bool, true, false, cond}
 use mathlib.Core.List.{List, [], _∷_, _++_}
@@ -10,11 +10,9 @@ use Rattle.model.specs.declared.Revoke.{Revoke}
 use Rattle.model.specs.declared.Person.{Person}
 use Rattle.model.specs.Policy.{Policy as Rules, State, nobody, person, granted}
 use Rattle.tables.specs.declared.Name.{Name}
-use Rattle.tables.specs.Names.{wordsOf}
 use Rattle.lines.specs.declared.Counts.{Counts}
 use Rattle.lines.specs.declared.Entry.{Entry}
 use Rattle.lines.specs.declared.PolicyLine.{PolicyLine}
-use Rattle.reading.specs.declared.policy.Policy.{Policy}
 use Rattle.reading.specs.Texts.{Judged, goes, ends, bad, Reading, read, refused, readText}
 use Rattle.lines.specs.Lines.{policyLine}
 
@@ -151,44 +149,3 @@ noAssign = record { admin = 0; positive = emptySet; negative = emptySet; target 
 
 unfoldable pub noRevoke : Revoke
 noRevoke = record { admin = 0; target = 0 }
-
--- no refusal, and what was read, laid out
-unfoldable pub laidWith : Counts → Said → Policy
-laidWith counts s = record {
-  refusal = 0;
-  line = 0;
-  persons = padded 64 nobody (s .holdings);
-  assigns = padded 256 noAssign (s .assigns);
-  revokes = padded 256 noRevoke (s .revokes);
-  goals = padded 32 emptySet (s .goals);
-  roles = padded 512 0 (wordsOf (s .roles));
-  users = padded 512 0 (wordsOf (s .users));
-  counts = counts;
-}
-
-unfoldable pub laidOut : Said → Policy
-laidOut s = laidWith (countsOf s) s
-
--- a refused text gives the refusal, with the policy of nothing
-unfoldable pub refusedPolicy : (number line : ℕ) → Policy
-refusedPolicy number line =
-    let blank = laidOut nothing in
-    record {
-      refusal = number;
-      line = line;
-      persons = blank .persons;
-      assigns = blank .assigns;
-      revokes = blank .revokes;
-      goals = blank .goals;
-      roles = blank .roles;
-      users = blank .users;
-      counts = blank .counts;
-    }
-
--- the record that reading gives
-unfoldable pub answerOf : Reading Said → Policy
-answerOf (read s) = laidOut s
-answerOf (refused number line) = refusedPolicy number line
-
-unfoldable pub policyRead : List ℕ → Policy
-policyRead text = answerOf (readPolicy text)

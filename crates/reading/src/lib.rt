@@ -1,2 +1,3 @@
-// Policy texts, read line by line into records.
+// Policy texts, read line by line into records: the directory, then the rules and goals.
+pub mod directory;
 pub mod policy;

@@ -1,35 +1,50 @@
--- A policy in arrays is what a policy text says: as many elements of each array as its count.
-use Prim.Native.Nat.{ℕ, _-_, _≤_}
-use mathlib.Core.List.{List}
+-- What a run is over, in arrays, is what a policy text says: as many elements of each array as its count.
+use Prim.Native.Nat.{ℕ, _-_, _*_, _≤_}
+use mathlib.Core.List.{List, []}
 use mathlib.Core.Path.{_≡_, refl, sym, ap, _∙_}
 use lib.ListN.{length, take, replicate}
 use lib.Seq.{take-at}
 use native.Mathlib.Omega.{arith}
 use Rattle.roles.specs.Sets.{emptySet}
+use Rattle.model.specs.declared.Person.{Person}
 use Rattle.model.specs.Policy.{nobody}
 use Rattle.tables.specs.Names.{rows}
-use Rattle.reading.specs.declared.policy.Policy.{Policy}
-use Rattle.reading.specs.Policy.{Said, countsOf, padded, noAssign, noRevoke, laidWith, laidOut}
-use Rattle.reading.specs.Reached.{Bounded}
-use Rattle.reading.specs.Told.{roles-laid, users-laid}
-use Rattle.running.specs.Verdict.{traceVerdict}
+use Rattle.reading.specs.declared.directory.Directory.{Directory}
+use Rattle.reading.specs.declared.policy.Rules.{Rules}
+use Rattle.reading.specs.Texts.{Reading, read, refused}
+use Rattle.reading.specs.Policy.{Said, countsOf, padded, noAssign, noRevoke}
+use Rattle.reading.specs.Rules.{laidWith, laidOut}
+use Rattle.reading.specs.Bounded.{Bounded}
+use Rattle.reading.specs.Told.{Laid, users-laid, people-laid, tables-laid}
+use Rattle.traces.specs.TraceText.{Traced, readTrace}
+use Rattle.running.specs.Verdict.{readVerdict, traceVerdict}
 
--- No count of users or rules is above its limit.
-pub record Counted (p : Policy) : Type 0 where
-  pub users : p .counts .users ≤ 64
-  pub assigns : p .counts .assigns ≤ 256
-  pub revokes : p .counts .revokes ≤ 256
+-- The table of the user names, the people, and the rules and goals.
+pub record Arrays : Type 0 where
+  pub users : List ℕ
+  pub persons : List Person
+  pub rules : Rules
 
--- What the arrays say.
-unfoldable pub saidIn : Policy → Said
+abbrev pub arrays : List ℕ → List Person → Rules → Arrays
+arrays users persons rules = record { users = users; persons = persons; rules = rules }
+
+-- No count of users or rules is above its limit, and the table has the users' names.
+pub record Counted (p : Arrays) : Type 0 where
+  pub users : p .rules .counts .users ≤ 64
+  pub assigns : p .rules .counts .assigns ≤ 256
+  pub revokes : p .rules .counts .revokes ≤ 256
+  pub named : 4 * p .rules .counts .users ≤ length (p .users)
+
+-- What the arrays say. A run asks nothing of the role names.
+unfoldable pub saidIn : Arrays → Said
 saidIn p = record {
-  stage = p .counts .stage;
-  roles = rows (p .counts .roles) (p .roles);
-  users = rows (p .counts .users) (p .users);
-  holdings = take (p .counts .users) (p .persons);
-  assigns = take (p .counts .assigns) (p .assigns);
-  revokes = take (p .counts .revokes) (p .revokes);
-  goals = take (p .counts .goals) (p .goals);
+  stage = p .rules .counts .stage;
+  roles = [];
+  users = rows (p .rules .counts .users) (p .users);
+  holdings = take (p .rules .counts .users) (p .persons);
+  assigns = take (p .rules .counts .assigns) (p .rules .assigns);
+  revokes = take (p .rules .counts .revokes) (p .rules .revokes);
+  goals = take (p .rules .counts .goals) (p .rules .goals);
 }
 
 -- as many elements of an array as were laid out in it
@@ -37,24 +52,42 @@ laid-first : {A : Type 0} (size : ℕ) (filling : A) (xs : List A) {count : ℕ}
 unfolding padded
 laid-first size filling xs {count} many = take-at xs (replicate (size - length xs) filling) count (omega (arith, many))
 
--- Of a policy that is laid out they say what was read,
-pub said-laid : {s : Said} → Bounded s → saidIn (laidOut s) ≡ s
-unfolding saidIn laidOut laidWith countsOf
-said-laid {s} b = λ i. record {
-  stage = s .stage;
-  roles = roles-laid s b refl i;
-  users = users-laid s b refl i;
-  holdings = laid-first 64 nobody (s .holdings) (sym (b .holdings)) i;
-  assigns = laid-first 256 noAssign (s .assigns) refl i;
-  revokes = laid-first 256 noRevoke (s .revokes) refl i;
-  goals = laid-first 32 emptySet (s .goals) refl i;
-}
+-- a policy without its role names
+unnamed : Said → Said
+unnamed s = record { stage = s .stage; roles = []; users = s .users; holdings = s .holdings; assigns = s .assigns; revokes = s .revokes; goals = s .goals }
 
--- and its counts are within their limits.
-pub counted-laid : {s : Said} → Bounded s → Counted (laidOut s)
-unfolding laidOut laidWith countsOf
-counted-laid b = record { users = b .users; assigns = b .assigns; revokes = b .revokes }
+unnamed-verdict : (s : Said) (text : List ℕ) → traceVerdict (unnamed s) text ≡ traceVerdict s text
+unfolding unnamed traceVerdict readVerdict
+unnamed-verdict s text = go (readTrace (length (s .assigns)) (length (s .revokes)) (s .users) text)
+  where
+    go : (r : Reading Traced) → readVerdict (unnamed s) r ≡ readVerdict s r
+    go (read t) = refl
+    go (refused number line) = refl
 
--- So the verdict on a trace over the arrays is that over the text.
-pub verdict-laid : {s : Said} {p : Policy} (text : List ℕ) → Bounded s → p ≡ laidOut s → traceVerdict (saidIn p) text ≡ traceVerdict s text
-verdict-laid text b laid = ap (λ (s : Said). traceVerdict s text) (ap saidIn laid ∙ said-laid b)
+module _ {s : Said} {D : Directory} {R : Rules} (l : Laid s D R) where
+  -- Of a policy that is read they say what was read,
+  said-laid : saidIn (arrays (D .users) (D .persons) R) ≡ unnamed s
+  unfolding saidIn laidOut laidWith countsOf unnamed
+  said-laid = λ i. record {
+    stage = l .rules i .counts .stage;
+    roles = [];
+    users = users-laid l i;
+    holdings = (ap (λ (r : Rules). take (r .counts .users) (D .persons)) (l .rules) ∙ ap (take (length (s .users))) (people-laid l) ∙ laid-first 64 nobody (s .holdings) (sym (l .bounded .holdings))) i;
+    assigns = (ap (λ (r : Rules). take (r .counts .assigns) (r .assigns)) (l .rules) ∙ laid-first 256 noAssign (s .assigns) refl) i;
+    revokes = (ap (λ (r : Rules). take (r .counts .revokes) (r .revokes)) (l .rules) ∙ laid-first 256 noRevoke (s .revokes) refl) i;
+    goals = (ap (λ (r : Rules). take (r .counts .goals) (r .goals)) (l .rules) ∙ laid-first 32 emptySet (s .goals) refl) i;
+  }
+
+  -- and the counts are within their limits.
+  pub counted-laid : Counted (arrays (D .users) (D .persons) R)
+  unfolding laidOut laidWith countsOf
+  counted-laid = record {
+    users = omega (arith, ap (λ (r : Rules). r .counts .users) (l .rules), l .bounded .users);
+    assigns = omega (arith, ap (λ (r : Rules). r .counts .assigns) (l .rules), l .bounded .assigns);
+    revokes = omega (arith, ap (λ (r : Rules). r .counts .revokes) (l .rules), l .bounded .revokes);
+    named = tables-laid l .2;
+  }
+
+  -- So the verdict on a trace over the arrays is that over the text.
+  pub verdict-laid : (text : List ℕ) → traceVerdict (saidIn (arrays (D .users) (D .persons) R)) text ≡ traceVerdict s text
+  verdict-laid text = ap (λ (s : Said). traceVerdict s text) said-laid ∙ unnamed-verdict s text

@@ -14,7 +14,6 @@ use Rattle.model.specs.declared.Person.{Person}
 use Rattle.model.specs.Policy.{State}
 use Rattle.tables.specs.Names.{rows, rows-length}
 use Rattle.text.specs.Pieces.{part, Sought}
-use Rattle.reading.specs.declared.policy.Policy.{Policy}
 use Rattle.reading.specs.Texts.{Judged, Reading, text-long}
 use Rattle.reading.specs.Walk.{On, on-start, on-end, on-tail, on-bad, on-goes, on-last, on-more}
 use Rattle.steps.specs.declared.Found.{Found}
@@ -28,34 +27,34 @@ use Rattle.traces.specs.declared.TraceLine.{TraceLine}
 use Rattle.traces.specs.TraceLines.{traceLine}
 use Rattle.traces.specs.TraceText.{Traced, untraced, added, answered, judgeLine, readTrace}
 use Rattle.running.specs.declared.TraceVerdict.{TraceVerdict}
-use Rattle.running.specs.Layout.{Counted, saidIn}
+use Rattle.running.specs.Layout.{Arrays, Counted, saidIn}
 use Rattle.running.specs.declared.Tried.{Tried}
 use Rattle.running.specs.Trying.{triedIn, tried-taken, tried-place, tried-possible, tried-after}
 use Rattle.running.specs.Range.{Ranged, within, good-range}
 use Rattle.running.specs.Verdict.{ranVerdict, readVerdict, traceVerdict, soFar, endVerdict}
 
--- how the arrays of a policy are laid out: as long as their types say, with counts within
-pub record Arrayed (p : Policy) : Type 0 where
+-- how the arrays are laid out: as long as their types say, with counts within
+pub record Arrayed (p : Arrays) : Type 0 where
   pub counts : Counted p
   pub persons : length (p .persons) ≡ 64
-  pub assigns : length (p .assigns) ≡ 256
-  pub revokes : length (p .revokes) ≡ 256
+  pub assigns : length (p .rules .assigns) ≡ 256
+  pub revokes : length (p .rules .revokes) ≡ 256
 
 -- one line of a trace over the policy
-unfoldable pub judgeOver : Policy → Traced → List ℕ → Judged Traced
-judgeOver p = judgeLine (p .counts .assigns) (p .counts .revokes) (rows (p .counts .users) (p .users))
+unfoldable pub judgeOver : Arrays → Traced → List ℕ → Judged Traced
+judgeOver p = judgeLine (p .rules .counts .assigns) (p .rules .counts .revokes) (rows (p .rules .counts .users) (p .users))
 
 -- the rules and the state that the arrays hold
-unfoldable pub assignsIn : Policy → List Assign
-assignsIn p = take (p .counts .assigns) (p .assigns)
+unfoldable pub assignsIn : Arrays → List Assign
+assignsIn p = take (p .rules .counts .assigns) (p .rules .assigns)
 
-unfoldable pub revokesIn : Policy → List Revoke
-revokesIn p = take (p .counts .revokes) (p .revokes)
+unfoldable pub revokesIn : Arrays → List Revoke
+revokesIn p = take (p .rules .counts .revokes) (p .rules .revokes)
 
-unfoldable pub stateIn : Policy → List Person → State
-stateIn p persons = take (p .counts .users) persons
+unfoldable pub stateIn : Arrays → List Person → State
+stateIn p persons = take (p .rules .counts .users) persons
 
-pub record Reached (p : Policy) (text : List ℕ) (at number : ℕ) (started : Bool) (steps stopped : ℕ) (persons : List Person) : Type 0 where
+pub record Reached (p : Arrays) (text : List ℕ) (at number : ℕ) (started : Bool) (steps stopped : ℕ) (persons : List Person) : Type 0 where
   pub arrayed : Arrayed p
   -- what the lines so far say
   pub said : Traced
@@ -69,19 +68,19 @@ pub record Reached (p : Policy) (text : List ℕ) (at number : ℕ) (started : B
   pub on : On (judgeOver p) 15 14 untraced text at number said
 
 -- the verdict goes by what the text gives
-verdict-is : (p : Policy) → Arrayed p → (text : List ℕ) {given : Reading Traced} → readTrace (p .counts .assigns) (p .counts .revokes) (rows (p .counts .users) (p .users)) text ≡ given
+verdict-is : (p : Arrays) → Arrayed p → (text : List ℕ) {given : Reading Traced} → readTrace (p .rules .counts .assigns) (p .rules .counts .revokes) (rows (p .rules .counts .users) (p .users)) text ≡ given
     → readVerdict (saidIn p) given ≡ traceVerdict (saidIn p) text
 unfolding traceVerdict saidIn
 verdict-is p arrayed text {given} is =
-    let assigns : length (take (p .counts .assigns) (p .assigns)) ≡ p .counts .assigns = length-take (p .counts .assigns) (p .assigns) ∙ omega (arith, arrayed .assigns, arrayed .counts .assigns) in
-    let revokes : length (take (p .counts .revokes) (p .revokes)) ≡ p .counts .revokes = length-take (p .counts .revokes) (p .revokes) ∙ omega (arith, arrayed .revokes, arrayed .counts .revokes) in
-    ap (readVerdict (saidIn p)) (sym (ap₂ (λ (a r : ℕ). readTrace a r (rows (p .counts .users) (p .users)) text) assigns revokes ∙ is))
+    let assigns : length (take (p .rules .counts .assigns) (p .rules .assigns)) ≡ p .rules .counts .assigns = length-take (p .rules .counts .assigns) (p .rules .assigns) ∙ omega (arith, arrayed .assigns, arrayed .counts .assigns) in
+    let revokes : length (take (p .rules .counts .revokes) (p .rules .revokes)) ≡ p .rules .counts .revokes = length-take (p .rules .counts .revokes) (p .rules .revokes) ∙ omega (arith, arrayed .revokes, arrayed .counts .revokes) in
+    ap (readVerdict (saidIn p)) (sym (ap₂ (λ (a r : ℕ). readTrace a r (rows (p .rules .counts .users) (p .users)) text) assigns revokes ∙ is))
 
-pub refused-long : (p : Policy) (text : List ℕ) → 32768 < length text → TraceVerdict.Refused 14 0 ≡ traceVerdict (saidIn p) text
+pub refused-long : (p : Arrays) (text : List ℕ) → 32768 < length text → TraceVerdict.Refused 14 0 ≡ traceVerdict (saidIn p) text
 unfolding traceVerdict readTrace readVerdict
 refused-long p text long = sym (ap (readVerdict (saidIn p)) (text-long _ 15 14 untraced text long))
 
-pub reached-start : (p : Policy) (text : List ℕ) → Arrayed p → length text ≤ 32768 → Reached p text 0 1 false 0 0 (p .persons)
+pub reached-start : (p : Arrays) (text : List ℕ) → Arrayed p → length text ≤ 32768 → Reached p text 0 1 false 0 0 (p .persons)
 unfolding untraced runOf soFar
 reached-start p text arrayed short = record {
   arrayed = arrayed;
@@ -100,7 +99,7 @@ unfolding endVerdict ranVerdict soFar
 end-is steps zero goals σ = refl
 end-is steps (suc number) goals σ = refl
 
-module _ {p : Policy} {text : List ℕ} {at number : ℕ} {started : Bool} {steps stopped : ℕ} {persons : List Person} (r : Reached p text at number started steps stopped persons) where
+module _ {p : Arrays} {text : List ℕ} {at number : ℕ} {started : Bool} {steps stopped : ℕ} {persons : List Person} (r : Reached p text at number started steps stopped persons) where
   -- no line is left, or one without LF
   pub reached-end : length text ≤ at → TraceVerdict.Refused 15 number ≡ traceVerdict (saidIn p) text
   unfolding readTrace readVerdict judgeOver
@@ -111,11 +110,11 @@ module _ {p : Policy} {text : List ℕ} {at number : ℕ} {started : Bool} {step
     unfolding readTrace readVerdict judgeOver
     reached-tail last = verdict-is p (r .arrayed) text (on-tail (judgeOver p) 15 14 untraced (r .on) sought last)
 
-    module _ (here : stop < length text) {answer : TraceLine} (given : answer ≡ traceLine started (p .counts .assigns) (p .counts .revokes) (rows (p .counts .users) (p .users)) (part text at stop)) where
+    module _ (here : stop < length text) {answer : TraceLine} (given : answer ≡ traceLine started (p .rules .counts .assigns) (p .rules .counts .revokes) (rows (p .rules .counts .users) (p .users)) (part text at stop)) where
       judged-is : {judged : Judged Traced} → answered (r .said) answer ≡ judged → judgeOver p (r .said) (part text at stop) ≡ judged
       unfolding judgeLine judgeOver
       judged-is is =
-          ap (answered (r .said)) (sym (given ∙ ap (λ (b : Bool). traceLine b (p .counts .assigns) (p .counts .revokes) (rows (p .counts .users) (p .users)) (part text at stop)) (r .begun))) ∙ is
+          ap (answered (r .said)) (sym (given ∙ ap (λ (b : Bool). traceLine b (p .rules .counts .assigns) (p .rules .counts .revokes) (rows (p .rules .counts .users) (p .users)) (part text at stop)) (r .begun))) ∙ is
 
       -- a line that is not good
       pub line-refused : {k : ℕ} → answer ≡ TraceLine.Bad k → TraceVerdict.Refused k number ≡ traceVerdict (saidIn p) text
@@ -161,16 +160,16 @@ module _ {p : Policy} {text : List ℕ} {at number : ℕ} {started : Bool} {step
           go (suc n) positive run = broken-stays (assignsIn p) (revokesIn p) (stateIn p (p .persons)) (r .said .steps) (step ∷ []) (suc n) run
 
       module _ {step : Step} (good : answer ≡ TraceLine.Good (TraceEntry.Step step)) where
-        ranged : Ranged (p .counts .assigns) (p .counts .revokes) (p .counts .users) (TraceEntry.Step step)
+        ranged : Ranged (p .rules .counts .assigns) (p .rules .counts .revokes) (p .rules .counts .users) (TraceEntry.Step step)
         ranged =
-            subst (λ (n : ℕ). Ranged (p .counts .assigns) (p .counts .revokes) n (TraceEntry.Step step)) (rows-length (p .counts .users) (p .users))
-            (good-range started (p .counts .assigns) (p .counts .revokes) (rows (p .counts .users) (p .users)) (part text at stop) (sym given ∙ good))
+            subst (λ (n : ℕ). Ranged (p .rules .counts .assigns) (p .rules .counts .revokes) n (TraceEntry.Step step)) (rows-length (p .rules .counts .users) (p .users))
+            (good-range started (p .rules .counts .assigns) (p .rules .counts .revokes) (rows (p .rules .counts .users) (p .users)) (part text at stop) (sym given ∙ good))
 
         pub step-range : Ranged 256 256 64 (TraceEntry.Step step)
         step-range = within step (r .arrayed .counts .assigns) (r .arrayed .counts .revokes) (r .arrayed .counts .users) ranged
 
         -- the step was tried over the arrays
-        module _ (none : stopped ≡ 0) {tried : Tried} (over : tried ≡ triedIn (p .assigns) (p .revokes) persons step) where
+        module _ (none : stopped ≡ 0) {tried : Tried} (over : tried ≡ triedIn (p .rules .assigns) (p .rules .revokes) persons step) where
           running : runOf (assignsIn p) (revokesIn p) (stateIn p (p .persons)) (r .said .steps) ≡ ran (stateIn p persons)
           unfolding soFar
           running = r .run ∙ ap (λ (n : ℕ). soFar n (stateIn p persons)) none
@@ -178,23 +177,23 @@ module _ {p : Policy} {text : List ℕ} {at number : ℕ} {started : Bool} {step
           -- as over what they hold
           tried-is : triedIn (assignsIn p) (revokesIn p) (stateIn p persons) step ≡ tried
           unfolding assignsIn revokesIn stateIn
-          tried-is = tried-taken (p .counts .assigns) (p .counts .revokes) (p .counts .users) (p .assigns) (p .revokes) persons step ranged ∙ sym over
+          tried-is = tried-taken (p .rules .counts .assigns) (p .rules .counts .revokes) (p .rules .counts .users) (p .rules .assigns) (p .rules .revokes) persons step ranged ∙ sym over
 
           may-is : possible (assignsIn p) (revokesIn p) (stateIn p persons) step ≡ tried .possible
           unfolding assignsIn revokesIn stateIn
           may-is =
               tried-possible (assignsIn p) (revokesIn p) (stateIn p persons) step
-              (within step (omega (arith, length-take (p .counts .assigns) (p .assigns), r .arrayed .assigns, r .arrayed .counts .assigns))
-              (omega (arith, length-take (p .counts .revokes) (p .revokes), r .arrayed .revokes, r .arrayed .counts .revokes))
-              (omega (arith, length-take (p .counts .users) persons, r .wide, r .arrayed .counts .users)) ranged)
+              (within step (omega (arith, length-take (p .rules .counts .assigns) (p .rules .assigns), r .arrayed .assigns, r .arrayed .counts .assigns))
+              (omega (arith, length-take (p .rules .counts .revokes) (p .rules .revokes), r .arrayed .revokes, r .arrayed .counts .revokes))
+              (omega (arith, length-take (p .rules .counts .users) persons, r .wide, r .arrayed .counts .users)) ranged)
               ∙ ap (λ (t : Tried). t .possible) tried-is
 
           after-is : after (assignsIn p) (revokesIn p) (stateIn p persons) step ≡ stateIn p (set persons (tried .place) (tried .user))
           unfolding stateIn
           after-is =
-              let below = tried-place (p .counts .assigns) (p .counts .revokes) (p .counts .users) (p .assigns) (p .revokes) persons step ranged in
+              let below = tried-place (p .rules .counts .assigns) (p .rules .counts .revokes) (p .rules .counts .users) (p .rules .assigns) (p .rules .revokes) persons step ranged in
               tried-after (assignsIn p) (revokesIn p) (stateIn p persons) step ∙ ap (λ (t : Tried). set (stateIn p persons) (t .place) (t .user)) tried-is
-              ∙ sym (take-set-lt (p .counts .users) persons (tried .place) (tried .user) (omega (arith, ap (λ (t : Tried). t .place) over, below)))
+              ∙ sym (take-set-lt (p .rules .counts .users) persons (tried .place) (tried .user) (omega (arith, ap (λ (t : Tried). t .place) over, below)))
 
           pub step-goes : tried .possible ≡ true → Reached p text (stop + 1) (number + 1) started (steps + 1) stopped (set persons (tried .place) (tried .user))
           unfolding soFar
@@ -212,12 +211,12 @@ module _ {p : Policy} {text : List ℕ} {at number : ℕ} {started : Bool} {step
 
       -- the last line, and bytes after it
       module _ (ending : answer ≡ TraceLine.Good TraceEntry.End) where
-        pub line-last : {found : Found} {verdict : TraceVerdict} → length text ≤ stop + 1 → found ≡ firstBad (stateIn p persons) (take (p .counts .goals) (p .goals)) → verdict ≡ endVerdict stopped steps found
+        pub line-last : {found : Found} {verdict : TraceVerdict} → length text ≤ stop + 1 → found ≡ firstBad (stateIn p persons) (take (p .rules .counts .goals) (p .rules .goals)) → verdict ≡ endVerdict stopped steps found
             → verdict ≡ traceVerdict (saidIn p) text
         unfolding readTrace readVerdict judgeOver answered added saidIn assignsIn revokesIn stateIn
         line-last {found} all finds is =
-            is ∙ ap (endVerdict stopped steps) finds ∙ end-is steps stopped (take (p .counts .goals) (p .goals)) (stateIn p persons)
-            ∙ ap₂ (λ (n : ℕ) (x : Ran). ranVerdict n (take (p .counts .goals) (p .goals)) x) (r .counted) (sym (r .run))
+            is ∙ ap (endVerdict stopped steps) finds ∙ end-is steps stopped (take (p .rules .counts .goals) (p .rules .goals)) (stateIn p persons)
+            ∙ ap₂ (λ (n : ℕ) (x : Ran). ranVerdict n (take (p .rules .counts .goals) (p .rules .goals)) x) (r .counted) (sym (r .run))
             ∙ verdict-is p (r .arrayed) text (on-last (judgeOver p) 15 14 untraced (r .on) sought here (judged-is (ap (answered (r .said)) ending)) all)
 
         pub line-more : stop + 1 < length text → TraceVerdict.Refused 15 (number + 1) ≡ traceVerdict (saidIn p) text

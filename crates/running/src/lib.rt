@@ -2,11 +2,11 @@
 ghost use mathlib.Core.Path.{_≡_};
 ghost use Rattle.steps.specs.Tests.{mayAssign, mayRevoke, withTarget, withoutTarget};
 ghost use Rattle.running.specs.Verdict.{endVerdict, traceVerdict};
-ghost use Rattle.running.specs.Layout.{Counted, saidIn};
+ghost use Rattle.running.specs.Layout.{arrays, Counted, saidIn};
 use model::Assign;
 use model::Person;
 use model::Revoke;
-use reading::policy::Policy;
+use reading::policy::Rules;
 use steps::Found;
 use steps::Step;
 use steps::first_bad;
@@ -73,10 +73,10 @@ fn ending(broken: usize, steps: usize, found: Found) -> TraceVerdict
     TraceVerdict::Attacked(steps, found.user - 1, found.goal)
 }
 
-// The verdict on a trace text over a policy. The first bad line decides a refusal; after the first step that is not one, lines are read on.
-pub fn run_trace(text: &[u8], p: Policy) -> TraceVerdict
-    requires { ⌜ Counted p ⌝ }
-    ensures { λ r. ⌜ r ≡ traceVerdict (saidIn p) (now (text .entry)) ⌝ }
+// The verdict on a trace text over the user names, the people and the rules of a policy. The first bad line decides a refusal; after the first step that is not one, lines are read on.
+pub fn run_trace(text: &[u8], users: &[u64], people: [Person; 64], p: Rules) -> TraceVerdict
+    requires { ⌜ Counted (arrays (now users) people p) ⌝ }
+    ensures { λ r. ⌜ r ≡ traceVerdict (saidIn (arrays (now (users .entry)) people p)) (now (text .entry)) ⌝ }
 {
     let end = text.len();
     if 32768 < end {
@@ -84,7 +84,7 @@ pub fn run_trace(text: &[u8], p: Policy) -> TraceVerdict
     }
     let c = p.counts;
     let goals = p.goals;
-    let mut persons = p.persons;
+    let mut persons = people;
     let mut started = false;
     let mut steps = 0;
     let mut broken = 0;
@@ -95,7 +95,7 @@ pub fn run_trace(text: &[u8], p: Policy) -> TraceVerdict
         if stop == end {
             return TraceVerdict::Refused(15, number);
         }
-        let answer = read_line(&text[at..stop], &p.users, c, started);
+        let answer = read_line(&text[at..stop], users, c, started);
         let here = number;
         at = stop + 1;
         number += 1;

@@ -17,7 +17,7 @@ use Rattle.text.specs.Pieces.{split, part, sameBytes, Sought}
 use Rattle.reading.specs.Texts.{Judged, goes, bad, ends, text-long}
 use Rattle.reading.specs.Walk.{On, on-start, on-end, on-tail, on-bad, on-goes, on-last, on-more}
 use Rattle.reading.specs.Policy.{padded}
-use Rattle.reading.specs.Reached.{store-next}
+use Rattle.reading.specs.Storing.{store-next}
 use Rattle.typings.specs.declared.TypingEntry.{TypingEntry}
 use Rattle.typings.specs.declared.TypingLine.{TypingLine}
 use Rattle.typings.specs.declared.TypingRead.{TypingRead}

@@ -1,45 +1,54 @@
--- `answer_read` hands a refusal on, and where the policy is read, answers the evidence by its kind.
+-- `answer_read` hands a refusal on, and where directory and rules are read, answers the evidence by its kind.
 use mathlib.Core.Path.{sym, ap, _∙_}
-use Rattle.reading.specs.Told.{told, untold, tables-laid}
+use Rattle.reading.specs.Told.{Told, directory-untold, directory-told, opened, rules-untold, told, tables-laid}
+use Rattle.running.specs.Layout.{counted-laid}
 use Rattle.answering.specs.Answers.{judgedAnswer}
-use Rattle.answering.specs.Laws.{typing-refused, typing-judged, policy-refused, over-typing, over-trace, counted}
+use Rattle.answering.specs.Laws.{typing-refused, typing-judged, policy-refused, over-typing, over-trace}
 use Rattle.answering.specs.Named.{unnamedAnswer}
 use borrow.Author.Needs.{needs}
 use Rattle.answering.proofs.answer_read.Statement.{statement}
 use Rattle.answering.proofs.answer_read.Tie as tie
 
-read-policy-requires : tie.Need-read-policy-requires
-read-policy-requires c κs = search needs
+-- where the rules are read
+policy-told : (c : tie.Else2) → Told (c .before .before .before .before .before .before .before .before .before .before .before .before .before .args .policy .now) (c .before .before .before .before .before .before .before .before .before .before .read-directory .result) (c .before .before .read-rules .result)
+policy-told c =
+    let read = c .before .before .before .before .before .before .before .before .before in
+    told _ (directory-told _ (read .before .read-directory .ensures) (read .if1 .left)) (c .before .before .read-rules .ensures) (c .if2 .left)
+
+read-directory-requires : tie.Need-read-directory-requires
+read-directory-requires c κs = search needs
 
 unnamed-requires : tie.Need-unnamed-requires
 unnamed-requires c κs = search needs
 
 returns : tie.Need-returns
-returns c = c .unnamed .ensures ∙ policy-refused _ _ (untold _ (c .before .before .before .read-policy .ensures) (c .before .if1 .taken) .is)
+returns c = c .unnamed .ensures ∙ policy-refused _ _ (directory-untold _ (c .before .before .read-directory .ensures) (c .before .if1 .taken))
 
-is-typing-requires : tie.Need-is-typing-requires
-is-typing-requires c κs = search needs
-
-slice-aggregate-read-typing : tie.Need-slice-aggregate-read-typing
-slice-aggregate-read-typing c = search needs
-
-read-typing-requires : tie.Need-read-typing-requires
-read-typing-requires c κs =
-    let read = c .before .before .before .before .before in
-    let t = told _ (read .before .before .read-policy .ensures) (read .if1 .left) in
-    let room = tables-laid (t .said) (t .bounded) (t .laid) in
-    (room .0, room .1)
+read-rules-requires : tie.Need-read-rules-requires
+read-rules-requires c κs =
+    let read = c .before .before .before .before .before .before in
+    opened (directory-told (read .before .before .before .before .args .policy .now) (read .before .read-directory .ensures) (read .if1 .left))
 
 unnamed-requires-2 : tie.Need-unnamed-requires-2
 unnamed-requires-2 c κs = search needs
 
 returns-2 : tie.Need-returns-2
-returns-2 c =
-    let kind = c .before .before .before .before .before .before in
-    let read = kind .before .before .before in
-    let t = told _ (read .before .before .read-policy .ensures) (read .if1 .left) in
-    c .unnamed2 .ensures ∙ ap unnamedAnswer (typing-refused _ _ _ _ (c .before .before .before .read-typing .ensures) (c .before .if3 .taken))
-    ∙ over-typing _ _ (t .is) (t .bounded) (t .laid) (sym (kind .before .is-typing .ensures) ∙ kind .if2 .taken)
+returns-2 c = c .unnamed2 .ensures ∙ policy-refused _ _ (rules-untold _ (c .before .before .before .read-rules .ensures) (c .before .if2 .taken))
+
+is-typing-requires : tie.Need-is-typing-requires
+is-typing-requires c κs = search needs
+
+read-typing-requires : tie.Need-read-typing-requires
+read-typing-requires c κs = let room = tables-laid (policy-told (c .before .before .before .before .before .before) .laid) in (room .0, room .1)
+
+unnamed-requires-3 : tie.Need-unnamed-requires-3
+unnamed-requires-3 c κs = search needs
+
+returns-3 : tie.Need-returns-3
+returns-3 c =
+    let kind = c .before .before .before .before .before .before .before in
+    c .unnamed3 .ensures ∙ ap unnamedAnswer (typing-refused _ _ _ _ (c .before .before .before .read-typing .ensures) (c .before .if4 .taken))
+    ∙ over-typing _ _ (policy-told (kind .before .before .before)) (sym (kind .before .is-typing .ensures) ∙ kind .if3 .taken)
 
 judge-typing-requires : tie.Need-judge-typing-requires
 judge-typing-requires c κs = search needs
@@ -47,58 +56,46 @@ judge-typing-requires c κs = search needs
 judged-requires : tie.Need-judged-requires
 judged-requires c κs = search needs
 
-unnamed-requires-3 : tie.Need-unnamed-requires-3
-unnamed-requires-3 c κs = search needs
-
-returns-3 : tie.Need-returns-3
-returns-3 c =
-    let typing = c .before .before .before .before in
-    let kind = typing .before .before .before .before .before in
-    let read = kind .before .before .before in
-    let t = told _ (read .before .before .read-policy .ensures) (read .if1 .left) in
-    c .unnamed3 .ensures
-    ∙ ap unnamedAnswer (c .before .judged .ensures ∙ ap (judgedAnswer _ _) (c .before .before .judge-typing .ensures) ∙ typing-judged _ _ _ _ (typing .before .before .read-typing .ensures) (typing .if3 .left))
-    ∙ over-typing _ _ (t .is) (t .bounded) (t .laid) (sym (kind .before .is-typing .ensures) ∙ kind .if2 .taken)
-
-run-trace-requires : tie.Need-run-trace-requires
-run-trace-requires c κs =
-    let read = c .before .before .before in
-    let t = told _ (read .before .before .read-policy .ensures) (read .if1 .left) in
-    counted (t .bounded) (t .laid)
-
-slice-aggregate-traced : tie.Need-slice-aggregate-traced
-slice-aggregate-traced c = search needs
-
-traced-requires : tie.Need-traced-requires
-traced-requires c κs =
-    let read = c .before .before .before .before .before .before in
-    let t = told _ (read .before .before .read-policy .ensures) (read .if1 .left) in
-    tables-laid (t .said) (t .bounded) (t .laid) .2
+unnamed-requires-4 : tie.Need-unnamed-requires-4
+unnamed-requires-4 c κs = search needs
 
 returns-4 : tie.Need-returns-4
 returns-4 c =
-    let kind = c .before .before .before .before in
-    let read = kind .before .before .before in
-    let t = told _ (read .before .before .read-policy .ensures) (read .if1 .left) in
-    c .traced .ensures ∙ over-trace _ _ (t .is) (t .bounded) (t .laid) (c .before .before .before .run-trace .ensures) (sym (kind .before .is-typing .ensures) ∙ kind .if2 .left)
+    let typing = c .before .before .before .before .before in
+    let kind = typing .before .before .before .before .before .before in
+    c .unnamed4 .ensures
+    ∙ ap unnamedAnswer (c .before .judged .ensures ∙ ap (judgedAnswer _ _) (c .before .before .judge-typing .ensures) ∙ typing-judged _ _ _ _ (typing .before .before .read-typing .ensures) (typing .if4 .left))
+    ∙ over-typing _ _ (policy-told (kind .before .before .before)) (sym (kind .before .is-typing .ensures) ∙ kind .if3 .taken)
+
+run-trace-requires : tie.Need-run-trace-requires
+run-trace-requires c κs = counted-laid (policy-told (c .before .before .before .before .before .before .before) .laid)
+
+traced-requires : tie.Need-traced-requires
+traced-requires c κs = tables-laid (policy-told (c .before .before .before .before .before .before .before .before .before .before .before) .laid) .2
+
+returns-5 : tie.Need-returns-5
+returns-5 c =
+    let kind = c .before .before .before .before .before .before .before .before .before in
+    c .traced .ensures ∙ over-trace _ _ (policy-told (kind .before .before .before)) (c .before .before .before .before .run-trace .ensures) (sym (kind .before .is-typing .ensures) ∙ kind .if3 .left)
 
 pub answer-read-spec : {M : Type 1} → statement M
 answer-read-spec =
     tie.close
     (tie.spec
-    read-policy-requires
+    read-directory-requires
     unnamed-requires
     returns
-    is-typing-requires
-    slice-aggregate-read-typing
-    read-typing-requires
+    read-rules-requires
     unnamed-requires-2
     returns-2
-    judge-typing-requires
-    judged-requires
+    is-typing-requires
+    read-typing-requires
     unnamed-requires-3
     returns-3
+    judge-typing-requires
+    judged-requires
+    unnamed-requires-4
+    returns-4
     run-trace-requires
-    slice-aggregate-traced
     traced-requires
-    returns-4)
+    returns-5)

@@ -2,7 +2,7 @@
 use borrow.Author.Needs.{needs}
 use mathlib.Core.Path.{ap, _∙_}
 use Rattle.sheets.specs.Words.{turnedIn}
-use Rattle.judging.specs.Verdict.{subjectIn, rulesSaid, judgedRules}
+use Rattle.judging.specs.Verdict.{policyIn, rulesSaid, judgedRules}
 use Rattle.judging.proofs.judge_rules.Statement.{statement}
 use Rattle.judging.proofs.judge_rules.Tie as tie
 
@@ -13,10 +13,10 @@ rules-verdict-requires : tie.Need-rules-verdict-requires
 rules-verdict-requires c κs = search needs
 
 returns : tie.Need-returns
-unfolding judgedRules subjectIn turnedIn
+unfolding judgedRules policyIn turnedIn
 returns c =
     let laid = c .before .before .before .before .before .before .before in
-    c .rules-verdict .ensures ∙ ap (rulesSaid (subjectIn (laid .before .args .p))) (laid .lay-out .ensures)
+    c .rules-verdict .ensures ∙ ap (rulesSaid (policyIn (laid .before .args .p))) (laid .lay-out .ensures)
 
 pub judge-rules-spec : {M : Type 1} → statement M
 judge-rules-spec = tie.close (tie.spec lay-out-requires rules-verdict-requires returns)

@@ -1,22 +1,24 @@
 -- `judge_typing` takes the verdict on the holdings, where it is accepted that on the rules, and where it is accepted that on the goals.
 use borrow.Author.Needs.{needs}
+use mathlib.Core.List.{List}
 use mathlib.Core.Path.{_≡_, ap, _∙_}
+use Rattle.model.specs.declared.Person.{Person}
 use Rattle.model.specs.declared.Typing.{Typing as Table}
 use Rattle.sheets.specs.declared.Sheet.{Sheet}
 use Rattle.sheets.specs.Turned.{turnedOf}
 use Rattle.sheets.specs.Words.{saidIn, turnedIn}
-use Rattle.reading.specs.declared.policy.Policy.{Policy}
+use Rattle.reading.specs.declared.policy.Rules.{Rules}
 use Rattle.judging.specs.declared.Part.{Part}
 use Rattle.judging.specs.declared.TypingVerdict.{TypingVerdict}
-use Rattle.judging.specs.Verdict.{subjectIn, firstHolding, firstGoal, failingPart, allSaid, judgedTyping}
+use Rattle.judging.specs.Verdict.{policyIn, subjectIn, firstHolding, firstGoal, failingPart, allSaid, judgedTyping}
 use Rattle.judging.specs.Order.{then-stops, then-goes}
 use Rattle.judging.proofs.judge_typing.Statement.{statement}
 use Rattle.judging.proofs.judge_typing.Tie as tie
 
 -- the verdict by the sheet is that of the typing
-by-sheet : (p : Policy) (t : Table) (sheet : Sheet) {verdict : TypingVerdict} → turnedIn sheet ≡ turnedOf t (p .counts .roles) → verdict ≡ allSaid (subjectIn p) (turnedIn sheet) → verdict ≡ judgedTyping (subjectIn p) t
+by-sheet : (persons : List Person) (p : Rules) (t : Table) (sheet : Sheet) {verdict : TypingVerdict} → turnedIn sheet ≡ turnedOf t (p .counts .roles) → verdict ≡ allSaid (subjectIn persons p) (turnedIn sheet) → verdict ≡ judgedTyping (subjectIn persons p) t
 unfolding judgedTyping subjectIn
-by-sheet p t sheet same is = is ∙ ap (allSaid (subjectIn p)) same
+by-sheet persons p t sheet same is = is ∙ ap (allSaid (subjectIn persons p)) same
 
 lay-out-requires : tie.Need-lay-out-requires
 lay-out-requires c κs = search needs
@@ -34,12 +36,12 @@ enum-told-2 : tie.Need-enum-told-2
 enum-told-2 c = search needs
 
 returns : tie.Need-returns
-unfolding allSaid firstHolding subjectIn turnedIn
+unfolding allSaid firstHolding policyIn subjectIn turnedIn
 returns c =
     let judged = c .before .before in
-    let laid = judged .before .before .before .before .before .before .before .before in
+    let laid = judged .before .before .before .before .before .before .before in
     let sheet = laid .lay-out .result in
-    by-sheet (laid .before .args .p) (laid .before .args .t) sheet (laid .lay-out .ensures)
+    by-sheet (laid .before .args .persons) (laid .before .args .p) (laid .before .args .t) sheet (laid .lay-out .ensures)
     (then-stops _ (c .enum-told2 .given .1) (judged .failing .ensures ∙ ap (failingPart Part.Holdings) (judged .before .first-holding .ensures (sheet .needed) (sheet .opposed))))
 
 rules-verdict-requires : tie.Need-rules-verdict-requires
@@ -52,14 +54,14 @@ enum-told-4 : tie.Need-enum-told-4
 enum-told-4 c = search needs
 
 returns-2 : tie.Need-returns-2
-unfolding allSaid firstHolding subjectIn turnedIn
+unfolding allSaid firstHolding policyIn subjectIn turnedIn
 returns-2 c =
     let rules = c .before .before in
     let told = rules .before .before .before .before .before .before in
     let judged = told .before .before in
-    let laid = judged .before .before .before .before .before .before .before .before in
+    let laid = judged .before .before .before .before .before .before .before in
     let sheet = laid .lay-out .result in
-    by-sheet (laid .before .args .p) (laid .before .args .t) sheet (laid .lay-out .ensures)
+    by-sheet (laid .before .args .persons) (laid .before .args .p) (laid .before .args .t) sheet (laid .lay-out .ensures)
     (then-goes (told .enum-told .given .1) (judged .failing .ensures ∙ ap (failingPart Part.Holdings) (judged .before .first-holding .ensures (sheet .needed) (sheet .opposed)))
     (then-stops _ (c .enum-told4 .given .1) (rules .rules-verdict .ensures)))
 
@@ -70,15 +72,15 @@ failing-requires-2 : tie.Need-failing-requires-2
 failing-requires-2 c κs = search needs
 
 returns-3 : tie.Need-returns-3
-unfolding allSaid firstHolding firstGoal subjectIn turnedIn
+unfolding allSaid firstHolding firstGoal policyIn subjectIn turnedIn
 returns-3 c =
     let passed = c .before .before .before .before .before .before in
     let rules = passed .before .before in
     let told = rules .before .before .before .before .before .before in
     let judged = told .before .before in
-    let laid = judged .before .before .before .before .before .before .before .before in
+    let laid = judged .before .before .before .before .before .before .before in
     let sheet = laid .lay-out .result in
-    by-sheet (laid .before .args .p) (laid .before .args .t) sheet (laid .lay-out .ensures)
+    by-sheet (laid .before .args .persons) (laid .before .args .p) (laid .before .args .t) sheet (laid .lay-out .ensures)
     (then-goes (told .enum-told .given .1) (judged .failing .ensures ∙ ap (failingPart Part.Holdings) (judged .before .first-holding .ensures (sheet .needed) (sheet .opposed)))
     (then-goes (passed .enum-told3 .given .1) (rules .rules-verdict .ensures) (c .failing2 .ensures ∙ ap (failingPart Part.Goal) (c .before .first-goal .ensures (sheet .opposed)))))
 

@@ -3,7 +3,7 @@ use borrow.Author.Needs.{needs}
 use denote.Ref.{now}
 use mathlib.Core.Path.{ap, _∙_}
 use Rattle.judging.specs.declared.Part.{Part}
-use Rattle.judging.specs.Verdict.{subjectIn, firstAssign, firstRevoke, failingPart, rulesSaid}
+use Rattle.judging.specs.Verdict.{policyIn, firstAssign, firstRevoke, failingPart, rulesSaid}
 use Rattle.judging.specs.Order.{then-stops, then-goes}
 use Rattle.judging.proofs.rules_verdict.Statement.{statement}
 use Rattle.judging.proofs.rules_verdict.Tie as tie
@@ -21,7 +21,7 @@ enum-told-2 : tie.Need-enum-told-2
 enum-told-2 c = search needs
 
 returns : tie.Need-returns
-unfolding rulesSaid firstAssign subjectIn
+unfolding rulesSaid firstAssign policyIn
 returns c =
     let judged = c .before .before in
     then-stops _ (c .enum-told2 .given .1) (judged .failing .ensures ∙ ap (failingPart Part.Assign) (judged .before .first-assign .ensures))
@@ -33,7 +33,7 @@ failing-requires-2 : tie.Need-failing-requires-2
 failing-requires-2 c κs = search needs
 
 returns-2 : tie.Need-returns-2
-unfolding rulesSaid firstAssign firstRevoke subjectIn
+unfolding rulesSaid firstAssign firstRevoke policyIn
 returns-2 c =
     let told = c .before .before in
     let judged = told .before .before in

@@ -1,23 +1,44 @@
--- `refusal_of` reads the policy, and where it is read, the evidence over it.
+-- `refusal_of` reads the policy's directory, then its rules, and where both are read, the evidence over them.
 use borrow.Author.Needs.{needs}
 use mathlib.Core.Path.{_∙_}
-use Rattle.places.specs.PlaceLaws.{after-refused, after-read, over-laid}
-use Rattle.reading.specs.Told.{told, untold, tables-laid}
+use Rattle.places.specs.PlaceLaws.{after-refused, over-told}
+use Rattle.reading.specs.Told.{Told, directory-untold, directory-told, opened, rules-untold, told, tables-laid}
 use Rattle.places.proofs.refusal_of.Statement.{statement}
 use Rattle.places.proofs.refusal_of.Tie as tie
 
-read-policy-requires : tie.Need-read-policy-requires
-read-policy-requires c κs = search needs
+read-directory-requires : tie.Need-read-directory-requires
+read-directory-requires c κs = search needs
 
 returns : tie.Need-returns
-returns c = after-refused _ _ (untold _ (c .before .read-policy .ensures) (c .if1 .taken) .is)
+returns c = after-refused _ _ (directory-untold _ (c .before .read-directory .ensures) (c .if1 .taken))
 
-evidence-refusal-requires : tie.Need-evidence-refusal-requires
-evidence-refusal-requires c κs = let t = told (c .before .before .before .before .before .before .before .before .before .before .args .policy .now) (c .before .before .before .before .before .before .before .read-policy .ensures) (c .before .before .before .before .before .before .if1 .left) in tables-laid (t .said) (t .bounded) (t .laid)
+read-rules-requires : tie.Need-read-rules-requires
+read-rules-requires c κs =
+    let read = c .before .before .before .before .before .before in
+    opened (directory-told (read .before .before .before .before .args .policy .now) (read .before .read-directory .ensures) (read .if1 .left))
 
 returns-2 : tie.Need-returns-2
-returns-2 c = let t = told (c .before .before .before .before .before .before .before .before .before .before .before .args .policy .now) (c .before .before .before .before .before .before .before .before .read-policy .ensures) (c .before .before .before .before .before .before .before .if1 .left) in c .evidence-refusal .ensures ∙ over-laid (t .said) (t .bounded) (t .laid) _ ∙ after-read _ _ (t .is)
+returns-2 c = after-refused _ _ (rules-untold _ (c .before .before .read-rules .ensures) (c .if2 .taken))
+
+-- where the rules are read
+policy-told : (c : tie.Else2) → Told (c .before .before .before .before .before .before .before .before .before .before .before .before .before .args .policy .now) (c .before .before .before .before .before .before .before .before .before .before .read-directory .result) (c .before .before .read-rules .result)
+policy-told c =
+    let read = c .before .before .before .before .before .before .before .before .before in
+    told _ (directory-told _ (read .before .read-directory .ensures) (read .if1 .left)) (c .before .before .read-rules .ensures) (c .if2 .left)
+
+evidence-refusal-requires : tie.Need-evidence-refusal-requires
+evidence-refusal-requires c κs = tables-laid (policy-told (c .before .before .before .before .before) .laid)
+
+returns-3 : tie.Need-returns-3
+returns-3 c = c .evidence-refusal .ensures ∙ over-told (policy-told (c .before .before .before .before .before .before)) _
 
 pub refusal-of-spec : {M : Type 1} → statement M
 refusal-of-spec =
-    tie.close (tie.spec read-policy-requires returns evidence-refusal-requires returns-2)
+    tie.close
+    (tie.spec
+    read-directory-requires
+    returns
+    read-rules-requires
+    returns-2
+    evidence-refusal-requires
+    returns-3)

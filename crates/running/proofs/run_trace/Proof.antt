@@ -12,6 +12,7 @@ use Rattle.traces.specs.declared.TraceEntry.{TraceEntry}
 use Rattle.traces.specs.declared.TraceLine.{TraceLine}
 use Rattle.steps.specs.declared.Step.{Step}
 use Rattle.steps.specs.Traces.{assignAt, revokeAt}
+use Rattle.running.specs.Layout.{arrays}
 use Rattle.running.specs.Range.{InRange, Ranged}
 use Rattle.running.specs.Trying.{triedIn, tried-place}
 use Rattle.running.specs.Reached.{Reached, stateIn, refused-long, reached-start, reached-end, reached-tail, line-refused, line-header, step-passed, step-range, step-goes, step-breaks, line-last, line-more}
@@ -21,18 +22,18 @@ use Rattle.running.proofs.run_trace.Statement.{statement}
 use Rattle.running.proofs.run_trace.Tie as tie
 
 abbrev Inv-loop : tie.InvT-loop
-Inv-loop text p end c goals persons₀ started₀ steps₀ broken₀ at₀ number₀ persons started steps broken at number = Reached p text at number started steps broken persons
+Inv-loop text users p end c goals persons₀ started₀ steps₀ broken₀ at₀ number₀ persons started steps broken at number = Reached (arrays users persons₀ p) text at number started steps broken persons
 
 abbrev μ-loop : tie.MeasureT-loop
-μ-loop text p end c goals persons₀ started₀ steps₀ broken₀ at₀ number₀ persons started steps broken at number = length text - at
+μ-loop text users p end c goals persons₀ started₀ steps₀ broken₀ at₀ number₀ persons started steps broken at number = length text - at
 
 -- after a line was read: it ends within the text
-inside : (c : tie.After-read-line Inv-loop μ-loop) → c .before .before .before .before .before .before .seek .result < length (c .before .before .before .before .before .before .before .before .before .before .before .before .before .before .args .text .now)
-inside c = omega (arith, c .before .before .before .before .before .before .seek .ensures, c .before .before .before .before .before .if2 .left)
+inside : (c : tie.After-read-line Inv-loop μ-loop) → c .before .before .before .seek .result < length (c .before .before .before .before .before .before .before .before .before .before .before .args .text .now)
+inside c = omega (arith, c .before .before .before .seek .ensures, c .before .before .if2 .left)
 
 -- and the measure falls with the next
-nearer : (c : tie.After-read-line Inv-loop μ-loop) → length (c .before .before .before .before .before .before .before .before .before .before .before .before .before .before .args .text .now) - (c .before .before .before .before .before .before .seek .result + 1) < length (c .before .before .before .before .before .before .before .before .before .before .before .before .before .before .args .text .now) - c .before .before .before .before .before .before .before .before .loop .at
-nearer c = omega (arith, c .before .before .before .before .before .before .seek .ensures, c .before .before .before .before .before .before .before .loop-test .taken)
+nearer : (c : tie.After-read-line Inv-loop μ-loop) → length (c .before .before .before .before .before .before .before .before .before .before .before .args .text .now) - (c .before .before .before .seek .result + 1) < length (c .before .before .before .before .before .before .before .before .before .before .before .args .text .now) - c .before .before .before .before .before .loop .at
+nearer c = omega (arith, c .before .before .before .seek .ensures, c .before .before .before .before .loop-test .taken)
 
 -- where a step is tried: what the line says, and that its places are in range
 step-said : (c : tie.Then3 Inv-loop μ-loop) → c .before .before .before .before .before .before .before .read-line .result ≡ TraceLine.Good (TraceEntry.Step (c .before .before .entry .given .0 .0))
@@ -41,7 +42,7 @@ step-said c = c .before .before .before .before .before .answer .given .1 ∙ ap
 step-places : (c : tie.Then3 Inv-loop μ-loop) → Ranged 256 256 64 (TraceEntry.Step (c .before .before .entry .given .0 .0))
 step-places c =
     let line = c .before .before .before .before .before .before .before in
-    step-range (line .before .before .before .before .before .before .before .before .loop .inv) (line .before .before .before .before .before .before .seek .ensures) (inside line) (line .read-line .ensures) (step-said c)
+    step-range (line .before .before .before .before .before .loop .inv) (line .before .before .before .seek .ensures) (inside line) (line .read-line .ensures) (step-said c)
 
 assign-places : (c : tie.After-known-told3 Inv-loop μ-loop) → InRange 256 64 (c .before .step .given .0 .0) (c .before .step .given .0 .1 .0) (c .before .step .given .0 .1 .1 .0)
 assign-places c = subst (λ (s : Step). Ranged 256 256 64 (TraceEntry.Step s)) (c .before .step .given .1) (step-places (c .before .before .before))
@@ -51,7 +52,7 @@ revoke-places c = subst (λ (s : Step). Ranged 256 256 64 (TraceEntry.Step s)) (
 
 -- either way it is tried over the arrays, on one of the users
 abbrev tried-over : tie.Then3 Inv-loop μ-loop → Step → Tried
-tried-over c = triedIn (c .before .before .before .before .before .before .before .before .before .before .before .before .before .before .before .before .before .before .before .before .before .args .t2 .assigns) (c .before .before .before .before .before .before .before .before .before .before .before .before .before .before .before .before .before .before .before .before .before .args .t2 .revokes) (c .before .before .before .before .before .before .before .before .before .before .before .before .before .before .before .loop .persons)
+tried-over c = triedIn (c .before .before .before .before .before .before .before .before .before .before .before .before .before .before .before .before .before .before .args .t4 .assigns) (c .before .before .before .before .before .before .before .before .before .before .before .before .before .before .before .before .before .before .args .t4 .revokes) (c .before .before .before .before .before .before .before .before .before .before .before .before .loop .persons)
 
 tried-said : (c : tie.At-match3-came Inv-loop μ-loop) → c .match3 .tried ≡ tried-over (c .before) (c .before .before .before .entry .given .0 .0)
 unfolding nobody emptySet assignAt revokeAt person triedIn
@@ -71,10 +72,10 @@ loop-holds c =
     let start = c .before .before .before .before .before in
     reached-start _ _ (record {
       counts = start .pre;
-      persons = simp length-map at (start .good .1 .0 .1 .1 .1 .1 .0 .1 .0 .1);
-      assigns = simp length-map at (start .good .1 .0 .1 .1 .1 .1 .1 .0 .1 .0 .1);
-      revokes = simp length-map at (start .good .1 .0 .1 .1 .1 .1 .1 .1 .0 .1 .0 .1);
-    }) (c .before .before .before .if1 .left)
+      persons = start .good .1 .1 .0 .1 .0 .1;
+      assigns = simp length-map at (start .good .1 .1 .1 .0 .1 .1 .1 .1 .0 .1 .0 .1);
+      revokes = simp length-map at (start .good .1 .1 .1 .0 .1 .1 .1 .1 .1 .0 .1 .0 .1);
+    }) (c .before .before .if1 .left)
 
 seek-requires : tie.Need-seek-requires Inv-loop μ-loop
 seek-requires c κs = search needs
@@ -92,13 +93,13 @@ part-read-line-end : tie.Need-part-read-line-end Inv-loop μ-loop
 part-read-line-end c = search needs
 
 read-line-requires : tie.Need-read-line-requires Inv-loop μ-loop
-read-line-requires c κs = search needs
+read-line-requires c κs = c .before .before .before .before .before .before .before .before .before .before .pre .named
 
 add-at : tie.Need-add-at Inv-loop μ-loop
-add-at c = omega (arith, c .before .before .before .before .before .before .seek .ensures, (c .before .before .before .before .before .before .before .before .loop .inv) .on .short)
+add-at c = omega (arith, c .before .before .before .seek .ensures, (c .before .before .before .before .before .loop .inv) .on .short)
 
 add-number : tie.Need-add-number Inv-loop μ-loop
-add-number c = omega (arith, (c .before .before .before .before .before .before .before .before .loop .inv) .on)
+add-number c = omega (arith, (c .before .before .before .before .before .loop .inv) .on)
 
 enum-known-answer : tie.Need-enum-known-answer Inv-loop μ-loop
 enum-known-answer c = search needs
@@ -113,7 +114,7 @@ returns-3 : tie.Need-returns-3 Inv-loop μ-loop
 unfolding codeOf
 returns-3 c =
     let line = c .before .before .before in
-    ap (λ (k : ℕ). TraceVerdict.Refused k (line .before .before .before .before .before .before .before .before .loop .number)) (c .code .ensures ∙ ap codeOf (c .before .enum-told .given .1)) ∙ line-refused (line .before .before .before .before .before .before .before .before .loop .inv) (line .before .before .before .before .before .before .seek .ensures) (inside line) (line .read-line .ensures) (c .before .enum-told .given .1)
+    ap (λ (k : ℕ). TraceVerdict.Refused k (line .before .before .before .before .before .loop .number)) (c .code .ensures ∙ ap codeOf (c .before .enum-told .given .1)) ∙ line-refused (line .before .before .before .before .before .loop .inv) (line .before .before .before .seek .ensures) (inside line) (line .read-line .ensures) (c .before .enum-told .given .1)
 
 enum-told-2 : tie.Need-enum-told-2 Inv-loop μ-loop
 enum-told-2 c = search needs
@@ -124,13 +125,13 @@ loop-less c = nearer (c .before .before .before .before .before)
 loop-again : tie.Need-loop-again Inv-loop μ-loop
 loop-again c =
     let line = c .before .before .before .before .before in
-    line-header (line .before .before .before .before .before .before .before .before .loop .inv) (line .before .before .before .before .before .before .seek .ensures) (inside line) (line .read-line .ensures) (c .before .before .before .answer .given .1 ∙ ap TraceLine.Good (c .enum-told2 .given .1))
+    line-header (line .before .before .before .before .before .loop .inv) (line .before .before .before .seek .ensures) (inside line) (line .read-line .ensures) (c .before .before .before .answer .given .1 ∙ ap TraceLine.Good (c .enum-told2 .given .1))
 
 enum-known-entry : tie.Need-enum-known-entry Inv-loop μ-loop
 enum-known-entry c = search needs
 
 add-steps : tie.Need-add-steps Inv-loop μ-loop
-add-steps c = omega (arith, (c .before .before .before .before .before .before .before .before .before .before .before .before .before .before .loop .inv) .few, (c .before .before .before .before .before .before .before .before .before .before .before .before .before .before .loop .inv) .on)
+add-steps c = omega (arith, (c .before .before .before .before .before .before .before .before .before .before .before .loop .inv) .few, (c .before .before .before .before .before .before .before .before .before .before .before .loop .inv) .on)
 
 enum-known-step : tie.Need-enum-known-step Inv-loop μ-loop
 enum-known-step c = search needs
@@ -192,7 +193,7 @@ loop-less-2 c = nearer (c .before .before .before .before .before .before .befor
 loop-again-2 : tie.Need-loop-again-2 Inv-loop μ-loop
 loop-again-2 c =
     let line = c .before .before .before .before .before .before .before .before .before .before in
-    step-goes (line .before .before .before .before .before .before .before .before .loop .inv) (line .before .before .before .before .before .before .seek .ensures) (inside line) (line .read-line .ensures) (step-said (c .before .before .before)) (c .before .before .before .if3 .taken) (tried-said (c .before .before)) (c .before .if4 .taken)
+    step-goes (line .before .before .before .before .before .loop .inv) (line .before .before .before .seek .ensures) (inside line) (line .read-line .ensures) (step-said (c .before .before .before)) (c .before .before .before .if3 .taken) (tried-said (c .before .before)) (c .before .if4 .taken)
 
 loop-less-3 : tie.Need-loop-less-3 Inv-loop μ-loop
 loop-less-3 c = nearer (c .before .before .before .before .before .before .before .before .before)
@@ -200,7 +201,7 @@ loop-less-3 c = nearer (c .before .before .before .before .before .before .befor
 loop-again-3 : tie.Need-loop-again-3 Inv-loop μ-loop
 loop-again-3 c =
     let line = c .before .before .before .before .before .before .before .before .before in
-    step-breaks (line .before .before .before .before .before .before .before .before .loop .inv) (line .before .before .before .before .before .before .seek .ensures) (inside line) (line .read-line .ensures) (step-said (c .before .before)) (c .before .before .if3 .taken) (tried-said (c .before)) (c .if4 .left)
+    step-breaks (line .before .before .before .before .before .loop .inv) (line .before .before .before .seek .ensures) (inside line) (line .read-line .ensures) (step-said (c .before .before)) (c .before .before .if3 .taken) (tried-said (c .before)) (c .if4 .left)
 
 loop-less-4 : tie.Need-loop-less-4 Inv-loop μ-loop
 loop-less-4 c = nearer (c .before .before .before .before .before .before .before)
@@ -208,7 +209,7 @@ loop-less-4 c = nearer (c .before .before .before .before .before .before .befor
 loop-again-4 : tie.Need-loop-again-4 Inv-loop μ-loop
 loop-again-4 c =
     let line = c .before .before .before .before .before .before .before in
-    step-passed (line .before .before .before .before .before .before .before .before .loop .inv) (line .before .before .before .before .before .before .seek .ensures) (inside line) (line .read-line .ensures) (c .before .before .before .before .before .answer .given .1 ∙ ap TraceLine.Good (c .before .before .entry .given .1)) (c .if3 .left)
+    step-passed (line .before .before .before .before .before .loop .inv) (line .before .before .before .seek .ensures) (inside line) (line .read-line .ensures) (c .before .before .before .before .before .answer .given .1 ∙ ap TraceLine.Good (c .before .before .entry .given .1)) (c .if3 .left)
 
 enum-told-3 : tie.Need-enum-told-3 Inv-loop μ-loop
 enum-told-3 c = search needs
@@ -216,7 +217,7 @@ enum-told-3 c = search needs
 returns-4 : tie.Need-returns-4 Inv-loop μ-loop
 returns-4 c =
     let line = c .before .before .before .before .before .before in
-    line-more (line .before .before .before .before .before .before .before .before .loop .inv) (line .before .before .before .before .before .before .seek .ensures) (inside line) (line .read-line .ensures) (c .before .before .before .before .answer .given .1 ∙ ap TraceLine.Good (c .before .enum-told3 .given .1)) (c .if5 .taken)
+    line-more (line .before .before .before .before .before .loop .inv) (line .before .before .before .seek .ensures) (inside line) (line .read-line .ensures) (c .before .before .before .before .answer .given .1 ∙ ap TraceLine.Good (c .before .enum-told3 .given .1)) (c .if5 .taken)
 
 first-bad-requires : tie.Need-first-bad-requires Inv-loop μ-loop
 first-bad-requires c κs = search needs
@@ -228,7 +229,7 @@ returns-5 : tie.Need-returns-5 Inv-loop μ-loop
 unfolding stateIn
 returns-5 c =
     let line = c .before .before .before .before .before .before .before .before in
-    line-last (line .before .before .before .before .before .before .before .before .loop .inv) (line .before .before .before .before .before .before .seek .ensures) (inside line) (line .read-line .ensures) (c .before .before .before .before .before .before .answer .given .1 ∙ ap TraceLine.Good (c .before .before .before .enum-told3 .given .1)) (c .before .before .if5 .left) (c .before .first-bad .ensures) (c .ending .ensures)
+    line-last (line .before .before .before .before .before .loop .inv) (line .before .before .before .seek .ensures) (inside line) (line .read-line .ensures) (c .before .before .before .before .before .before .answer .given .1 ∙ ap TraceLine.Good (c .before .before .before .enum-told3 .given .1)) (c .before .before .if5 .left) (c .before .first-bad .ensures) (c .ending .ensures)
 
 returns-6 : tie.Need-returns-6 Inv-loop μ-loop
 returns-6 c = reached-end (c .before .loop .inv) (c .loop-test .left)

@@ -15,10 +15,10 @@ returns-2 : tie.Need-returns-2
 returns-2 c = users-differ _ _ (counts-differ _ _ (c .if2 .taken))
 
 slice-aggregate-same-words : tie.Need-slice-aggregate-same-words
-slice-aggregate-same-words c = sym (simp length-map at (c .before .before .before .before .before .before .before .good .0 .1 .1 .1 .1 .1 .1 .1 .1 .0 .1 .0 .1))
+slice-aggregate-same-words c = sym (simp length-map at (c .before .before .before .before .before .before .before .good .0 .1 .1 .1 .1 .1 .1 .0 .1 .0 .1))
 
 slice-aggregate-same-words-2 : tie.Need-slice-aggregate-same-words-2
-slice-aggregate-same-words-2 c = sym (simp length-map at (c .before .before .before .before .before .before .before .before .good .1 .0 .1 .1 .1 .1 .1 .1 .1 .1 .0 .1 .0 .1))
+slice-aggregate-same-words-2 c = sym (simp length-map at (c .before .before .before .before .before .before .before .before .good .1 .0 .1 .1 .1 .1 .1 .1 .0 .1 .0 .1))
 
 mul-same-words : tie.Need-mul-same-words
 mul-same-words c = search needs
@@ -35,10 +35,10 @@ returns-3 c =
     roles-differ _ _ (words-told _ _ roles (room .0) (room .1) (c .before .same-words .ensures) (not-true _ (c .if3 .taken)))
 
 slice-aggregate-same-words-3 : tie.Need-slice-aggregate-same-words-3
-slice-aggregate-same-words-3 c = sym (simp length-map at (c .before .before .before .before .before .before .before .before .before .before .before .before .before .good .0 .1 .1 .1 .1 .1 .1 .1 .1 .1 .0 .1 .0 .1))
+slice-aggregate-same-words-3 c = sym (simp length-map at (c .before .before .before .before .before .before .before .before .before .before .before .before .before .good .0 .1 .1 .1 .1 .1 .1 .1 .0 .1 .0 .1))
 
 slice-aggregate-same-words-4 : tie.Need-slice-aggregate-same-words-4
-slice-aggregate-same-words-4 c = sym (simp length-map at (c .before .before .before .before .before .before .before .before .before .before .before .before .before .before .good .1 .0 .1 .1 .1 .1 .1 .1 .1 .1 .1 .0 .1 .0 .1))
+slice-aggregate-same-words-4 c = sym (simp length-map at (c .before .before .before .before .before .before .before .before .before .before .before .before .before .before .good .1 .0 .1 .1 .1 .1 .1 .1 .1 .0 .1 .0 .1))
 
 mul-same-words-2 : tie.Need-mul-same-words-2
 mul-same-words-2 c = search needs
@@ -67,7 +67,7 @@ returns-5 c =
     people-told _ _
     (words-told _ _ (counts .before .before .if1 .left) (role-room .0) (role-room .1) (roles .before .same-words .ensures) (not-false _ (roles .if3 .left)))
     (words-told _ _ (counts .if2 .left) (user-room .0) (user-room .1) (names .before .same-words2 .ensures) (not-false _ (names .if4 .left)))
-    (counts .if2 .left) (counts .before .before .before .before .pre .1) (c .same-people .ensures)
+    (counts .if2 .left) (c .same-people .ensures)
 
 pub same-directory-spec : {M : Type 1} → statement M
 same-directory-spec =

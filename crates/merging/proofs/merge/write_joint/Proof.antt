@@ -1,7 +1,4 @@
 -- `write_joint` adds the counts, compares each sum with its limit, and writes the text where it fits.
-use lib.ListN.{length-map}
-use mathlib.Core.Path.{sym}
-use native.Mathlib.Omega.{arith}
 use Rattle.merging.specs.Meeting.{meets-leaving}
 use Rattle.merging.specs.MergeOutcomes.{assigns-above, revokes-above, goals-above, merge-unwritten, merge-written}
 use borrow.Author.Needs.{needs}
@@ -18,21 +15,18 @@ add-goals : tie.Need-add-goals
 add-goals c = search needs
 
 returns : tie.Need-returns
-returns c = λ s s′ l l′. meets-leaving (assigns-above l l′ _ _ (c .if1 .taken))
+returns c = λ s s′ one two named. meets-leaving (assigns-above s s′ one two _ _ (c .if1 .taken))
 
 returns-2 : tie.Need-returns-2
-returns-2 c = λ s s′ l l′. meets-leaving (revokes-above l l′ _ _ (c .if2 .taken))
+returns-2 c = λ s s′ one two named. meets-leaving (revokes-above s s′ one two _ _ (c .if2 .taken))
 
 returns-3 : tie.Need-returns-3
-returns-3 c = λ s s′ l l′. meets-leaving (goals-above l l′ _ _ (c .if3 .taken))
-
-slice-aggregate-write-fitting : tie.Need-slice-aggregate-write-fitting
-slice-aggregate-write-fitting c = sym (simp length-map at (c .before .before .before .before .before .before .before .before .before .before .before .before .before .good .0 .1 .1 .1 .1 .1 .1 .1 .1 .0 .1 .0 .1))
+returns-3 c = λ s s′ one two named. meets-leaving (goals-above s s′ one two _ _ (c .if3 .taken))
 
 write-fitting-requires : tie.Need-write-fitting-requires
 write-fitting-requires c κs =
-    let few = c .before .before .before .before .before .before .before .before .before .before .before .before .before .pre .0 .roles in
-    (omega (arith, slice-aggregate-write-fitting c, few), omega (arith, few))
+    let asked = c .before .before .before .before .before .before .before .before .before .before .before .before .pre in
+    (asked .0, asked .1 .roles)
 
 same-length : tie.Need-same-length
 same-length c = search needs
@@ -40,10 +34,10 @@ same-length c = search needs
 returns-4 : tie.Need-returns-4
 returns-4 c =
     let wrote = c .before .before .before in
-    let goals = wrote .before .before .before .before in
+    let goals = wrote .before .before in
     let revokes = goals .before in
     let assigns = revokes .before in
-    λ s s′ l l′. merge-unwritten l l′ _ _ (assigns .if1 .left) (revokes .if2 .left) (goals .if3 .left) (wrote .write-fitting .ensures) (c .if4 .taken)
+    λ s s′ one two named. merge-unwritten s s′ one two _ _ (assigns .if1 .left) (revokes .if2 .left) (goals .if3 .left) named (wrote .write-fitting .ensures) (c .if4 .taken)
 
 pinned-requires : tie.Need-pinned-requires
 pinned-requires c κs = search needs
@@ -54,10 +48,10 @@ same-length-2 c = search needs
 returns-5 : tie.Need-returns-5
 returns-5 c =
     let wrote = c .before .before .before .before in
-    let goals = wrote .before .before .before .before in
+    let goals = wrote .before .before in
     let revokes = goals .before in
     let assigns = revokes .before in
-    λ s s′ l l′. merge-written l l′ _ _ (assigns .if1 .left) (revokes .if2 .left) (goals .if3 .left) (wrote .write-fitting .ensures) (c .before .if4 .left) (c .pinned .ensures)
+    λ s s′ one two named. merge-written s s′ one two _ _ (assigns .if1 .left) (revokes .if2 .left) (goals .if3 .left) named (wrote .write-fitting .ensures) (c .before .if4 .left) (c .pinned .ensures)
 
 pub write-joint-spec : {M : Type 1} → statement M
 write-joint-spec =
@@ -69,7 +63,6 @@ write-joint-spec =
     returns
     returns-2
     returns-3
-    slice-aggregate-write-fitting
     write-fitting-requires
     same-length
     returns-4

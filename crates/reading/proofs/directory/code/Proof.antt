@@ -2,8 +2,8 @@
 use borrow.Author.Needs.{needs}
 use mathlib.Core.Path.{_≡_, sym, ap, _∙_}
 use Rattle.reading.specs.Policy.{codeOf}
-use Rattle.reading.proofs.policy.code.Statement.{statement}
-use Rattle.reading.proofs.policy.code.Tie as tie
+use Rattle.reading.proofs.directory.code.Statement.{statement}
+use Rattle.reading.proofs.directory.code.Tie as tie
 
 enum-told : tie.Need-enum-told
 enum-told c = search needs

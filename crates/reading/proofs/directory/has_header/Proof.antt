@@ -1,8 +1,8 @@
 -- `has_header` compares the first eight bytes, where there are so many.
 use borrow.Author.Needs.{needs}
 use Rattle.reading.specs.Header.{hasHeader, header-short}
-use Rattle.reading.proofs.policy.has_header.Statement.{statement}
-use Rattle.reading.proofs.policy.has_header.Tie as tie
+use Rattle.reading.proofs.directory.has_header.Statement.{statement}
+use Rattle.reading.proofs.directory.has_header.Tie as tie
 
 returns : tie.Need-returns
 returns c = header-short _ (c .if1 .taken)
