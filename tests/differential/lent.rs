@@ -1,8 +1,8 @@
 //! What is lent to the library: arrays and buffers that it writes into, and texts that it reads. On
 //! both sides of each stands something that is not lent.
 
-use std::hint::black_box;
 use std::ops::Range;
+use std::ptr::read_volatile;
 
 use crate::chance::Chance;
 
@@ -81,8 +81,9 @@ impl LentText {
         &self.all[self.part.clone()]
     }
 
-    /// Whether it is as it was. The compiler would take that for granted without the black box.
+    /// Whether it is as it was. The compiler would take that for granted, so each byte is read anew.
     pub fn is_kept(&self) -> bool {
-        *black_box(&self.all) == self.as_lent
+        // a reference can be read
+        self.all.iter().zip(&self.as_lent).all(|(now, then)| unsafe { read_volatile(now) } == *then)
     }
 }

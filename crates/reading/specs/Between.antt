@@ -67,11 +67,6 @@ module _ {text : List ℕ} {at number : ℕ} {c : Counts} {roles users : List �
         unfolding answered
         judged-entry is = judged-is (ap (answered s) good ∙ is)
 
-        -- an entry that is refused after all
-        pub between-refused : {k : ℕ} → entered s e ≡ bad k → readPolicy text ≡ refused k number
-        unfolding readPolicy
-        between-refused is = on-bad judgeLine 11 10 nothing (b .on) sought here (judged-entry is)
-
         -- an entry that is added
         pub between-added : {c′ : Counts} {roles′ users′ : List ℕ} → entered s e ≡ goes (added s e) → c′ ≡ countsOf (added s e)
             → rows (c′ .roles) roles′ ≡ added s e .roles → rows (c′ .users) users′ ≡ added s e .users → Between text (stop + 1) (number + 1) c′ roles′ users′ (added s e)

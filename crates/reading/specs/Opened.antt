@@ -81,7 +81,7 @@ module _ (text : List ℕ) where
     bounded : Bounded s
     ruleless : Ruleless s
 
-  -- what a line leads to, where the reading of the lines below is given
+  -- from a line of the directory on: the lines lead to the refusal of the policy, or to where the rules begin
   lines-lead : (pieces : List (List ℕ)) (s : Said) (at number : ℕ) → split 10 (drop at text) ≡ pieces → Early at number s → Outcome text (directoryLines s at number pieces)
   unfolding directoryLines leading readPolicy readLines onward closed countsOf
   lines-lead [] s at number cut e = e .on .left ∙ ap (readLines judgeLine 11 s number) cut

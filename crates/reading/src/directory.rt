@@ -124,6 +124,7 @@ pub fn read_directory(text: &[u8]) -> Directory
                 };
                 c.stage = 3;
             }
+            // a line of the rules: they are read from here on, and no line of the directory with them
             _ => {
                 c.stage = 4;
                 d.line = here;

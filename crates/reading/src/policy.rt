@@ -108,6 +108,7 @@ pub fn read_rules<'a>(
                 r.counts = c;
                 return r;
             }
+            // no line of the directory is in order here
             _ => {
                 return refused(11, here);
             }

@@ -388,13 +388,6 @@ lowest-place s = go (decLt (trailingZeros 64 (s .low)) 64)
     go (yes h) = subst⁻¹ (Lowest s) (lowest-low s h) (low h)
     go (no h) = subst⁻¹ (Lowest s) (lowest-high s (omega arith)) (high (omega arith))
 
-pub lowest-most : (s : RoleSet) → lowestRole s ≤ 128
-lowest-most s = go (lowest-place s)
-  where
-    go : {r : ℕ} → Lowest s r → r ≤ 128
-    go (low h) = omega arith
-    go (high h) = omega (arith, trailing-le 64 (s .high))
-
 pub lowest-has : (s : RoleSet) → lowestRole s < 128 → hasRole s (lowestRole s) ≡ true
 lowest-has s fits = go (lowest-place s) fits
   where

@@ -23,7 +23,7 @@ use Rattle.closing.specs.Clauses.{SizedPair, Fits, own-plus, own-minus, needed-
 use Rattle.closing.specs.Least.{close-held, close-absent}
 use Rattle.closing.specs.Tests.{clash-test}
 use Rattle.rules.specs.Tests.{implies, inconsistentRole, personPasses, holdsHigh, unopposedTarget, unneededTarget, targetSuits, assignPasses, revokePasses, goalPasses}
-use Rattle.rules.specs.Joined.{implies-exact, either-exact, both-exact, not-exact, label-exact, share-exact, within-exact}
+use Rattle.rules.specs.Joined.{implies-exact, either-exact, both-exact, not-exact, share-exact, within-exact}
 
 -- A typing that fits its roles, with the label L past them. A set may name a role past them: nothing is then asked of it.
 pub record Laid (t : Table) (roles : ℕ) : Type 0 where

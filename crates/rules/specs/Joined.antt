@@ -31,10 +31,6 @@ pub not-exact : (a : Bool) {A : Type 0} → a ≡ true ↔ A → not a ≡ true 
 not-exact true one = (λ e x. false≢true e, λ none. absurd (none (one .0 refl)))
 not-exact false one = (λ e x. false≢true (one .1 x), λ none. refl)
 
--- a label is at most another
-pub label-exact : (a b : Bool) → implies a b ≡ true ↔ (a ⊑ b)
-label-exact a b = (λ e. record { raised = implies-exact a b .0 e }, λ up. implies-exact a b .1 (up .raised))
-
 -- two sets share a role
 pub share-exact : {s : RoleSet} (t : RoleSet) → Sized s → sharesRole s t ≡ true ↔ Share s t
 share-exact {s} t sized = (shares-share sized, share-shares s t)

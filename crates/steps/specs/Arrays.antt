@@ -15,16 +15,6 @@ use Rattle.steps.specs.declared.Step.{Step as TraceStep}
 use Rattle.steps.specs.Tests.{mayAssign, mayRevoke, withTarget, withoutTarget}
 use Rattle.steps.specs.Traces.{assignAt, revokeAt, possible, after}
 
--- A count above the array's length counts as that length.
-pub take-limit : {A : Type 0} (l : List A) (count : ℕ) → take (min count (length l)) l ≡ take count l
-take-limit l count = go (decLe count (length l))
-  where
-    go : Dec (count ≤ length l) → take (min count (length l)) l ≡ take count l
-    go (yes h) =
-        let same : min count (length l) ≡ count = omega arith in
-        rw same
-    go (no h) = take-all (min count (length l)) l (omega arith) ∙ sym (take-all count l (omega arith))
-
 -- ---- a step whose actor, rule and user are in range
 
 module _ (assigns : List Assign) (revokes : List Revoke) (σ : State) (actor rule user : ℕ) where
@@ -60,15 +50,3 @@ assign-taken rules count {rule} below = getD-take count rules rule _ below
 pub revoke-taken : (rules : List Revoke) (count : ℕ) {rule : ℕ} → rule < count → revokeAt (take count rules) rule ≡ revokeAt rules rule
 unfolding revokeAt
 revoke-taken rules count {rule} below = getD-take count rules rule _ below
-
--- the state after the step is what the array holds once the user's record is stored
-module _ (assigns : List Assign) (revokes : List Revoke) (persons : List Person) (users : ℕ) (actor rule user : ℕ) (below : user < users) where
-  pub assign-stored : after assigns revokes (take users persons) (TraceStep.Assign actor rule user) ≡ take users (set persons user (withTarget (assignAt assigns rule) (getD persons user nobody)))
-  assign-stored =
-      assign-after assigns revokes (take users persons) actor rule user ∙ ap (λ (p : Person). set (take users persons) user (withTarget (assignAt assigns rule) p)) (person-taken persons users below)
-      ∙ sym (take-set-lt users persons user _ below)
-
-  pub revoke-stored : after assigns revokes (take users persons) (TraceStep.Revoke actor rule user) ≡ take users (set persons user (withoutTarget (revokeAt revokes rule) (getD persons user nobody)))
-  revoke-stored =
-      revoke-after assigns revokes (take users persons) actor rule user ∙ ap (λ (p : Person). set (take users persons) user (withoutTarget (revokeAt revokes rule) p)) (person-taken persons users below)
-      ∙ sym (take-set-lt users persons user _ below)

@@ -1,14 +1,13 @@
 -- `read_directory` goes from line to line: the arrays hold what the lines so far say, and the rest of the text decides.
-use Prim.Native.Nat.{ℕ, _-_, _≤_, _<_}
+use Prim.Native.Nat.{ℕ, _+_, _-_, _≤_, _<_}
 use borrow.Author.Needs.{needs}
 use denote.Enum.Declared.{tagOf}
 use lib.ListN.{length}
 use mathlib.Core.List.{[], _∷_}
 use mathlib.Core.Logic.{_⊎_, inl, inr}
-use mathlib.Core.Path.{_≡_, refl, sym, ap, _∙_}
+use mathlib.Core.Path.{refl, sym, ap, _∙_}
 use native.Mathlib.Omega.{arith}
 use types.Run.{OneOf}
-use Rattle.model.specs.declared.Person.{Person}
 use Rattle.lines.specs.declared.Entry.{Entry}
 use Rattle.lines.specs.declared.PolicyLine.{PolicyLine}
 use Rattle.lines.proofs.Entry.{the-type}
@@ -44,6 +43,14 @@ Inv-loop text end d₀ c₀ at₀ number₀ d c at number = Reached text at numb
 
 abbrev μ-loop : tie.MeasureT-loop
 μ-loop text end d₀ c₀ at₀ number₀ d c at number = length text - at
+
+-- after a line was read: it ends within the text
+inside : (c : tie.After-read-line Inv-loop μ-loop) → c .before .before .before .before .before .before .before .before .seek .result < length (c .before .before .before .before .before .before .before .before .before .before .before .before .before .before .before .args .text .now)
+inside c = omega (arith, c .before .before .before .before .before .before .before .before .seek .ensures, c .before .before .before .before .before .before .before .if2 .left)
+
+-- and the measure falls with the next
+nearer : (c : tie.After-read-line Inv-loop μ-loop) → length (c .before .before .before .before .before .before .before .before .before .before .before .before .before .before .before .args .text .now) - (c .before .before .before .before .before .before .before .before .seek .result + 1) < length (c .before .before .before .before .before .before .before .before .before .before .before .before .before .before .before .args .text .now) - c .before .before .before .before .before .before .before .before .before .before .loop .at
+nearer c = omega (arith, c .before .before .before .before .before .before .before .before .seek .ensures, c .before .before .before .before .before .before .before .before .before .loop-test .taken)
 
 refused-requires : tie.Need-refused-requires Inv-loop μ-loop
 refused-requires c κs = search needs
@@ -101,18 +108,18 @@ returns-3 : tie.Need-returns-3 Inv-loop μ-loop
 unfolding codeOf
 returns-3 c =
     let line = c .before .before .before .before in
-    c .refused4 .ensures ∙ ap (λ (k : ℕ). refusedDirectory k (line .before .before .before .before .before .before .before .before .before .before .loop .number)) (c .before .code .ensures ∙ ap codeOf (c .before .before .enum-told .given .1)) ∙ line-refused (line .before .before .before .before .before .before .before .before .before .before .loop .inv) (line .before .before .before .before .before .before .before .before .seek .ensures) (omega (arith, line .before .before .before .before .before .before .before .before .seek .ensures, line .before .before .before .before .before .before .before .if2 .left)) (line .read-line .ensures) (c .before .before .enum-told .given .1)
+    c .refused4 .ensures ∙ ap (λ (k : ℕ). refusedDirectory k (line .before .before .before .before .before .before .before .before .before .before .loop .number)) (c .before .code .ensures ∙ ap codeOf (c .before .before .enum-told .given .1)) ∙ line-refused (line .before .before .before .before .before .before .before .before .before .before .loop .inv) (line .before .before .before .before .before .before .before .before .seek .ensures) (inside line) (line .read-line .ensures) (c .before .before .enum-told .given .1)
 
 enum-told-2 : tie.Need-enum-told-2 Inv-loop μ-loop
 enum-told-2 c = search needs
 
 loop-less : tie.Need-loop-less Inv-loop μ-loop
-loop-less c = omega (arith, c .before .before .before .before .before .before .before .before .before .before .before .before .before .seek .ensures, c .before .before .before .before .before .before .before .before .before .before .before .before .before .before .loop-test .taken)
+loop-less c = nearer (c .before .before .before .before .before)
 
 loop-again : tie.Need-loop-again Inv-loop μ-loop
 loop-again c =
     let line = c .before .before .before .before .before in
-    header-added (line .before .before .before .before .before .before .before .before .before .before .loop .inv) (line .before .before .before .before .before .before .before .before .seek .ensures) (omega (arith, line .before .before .before .before .before .before .before .before .seek .ensures, line .before .before .before .before .before .before .before .if2 .left)) (line .read-line .ensures) (c .before .before .before .answer .given .1 ∙ ap PolicyLine.Good (c .enum-told2 .given .1))
+    header-added (line .before .before .before .before .before .before .before .before .before .before .loop .inv) (line .before .before .before .before .before .before .before .before .seek .ensures) (inside line) (line .read-line .ensures) (c .before .before .before .answer .given .1 ∙ ap PolicyLine.Good (c .enum-told2 .given .1))
 
 enum-known-entry : tie.Need-enum-known-entry Inv-loop μ-loop
 enum-known-entry c = search needs
@@ -120,20 +127,20 @@ enum-known-entry c = search needs
 store-requires : tie.Need-store-requires Inv-loop μ-loop
 store-requires c κs =
     let line = c .before .before .before .before .before .before .before in
-    (fits-here ((line .before .before .before .before .before .before .before .before .before .before .loop .inv) .between) (line .before .before .before .before .before .before .before .before .seek .ensures) (omega (arith, line .before .before .before .before .before .before .before .before .seek .ensures, line .before .before .before .before .before .before .before .if2 .left)) (line .read-line .ensures) (c .before .before .before .before .before .answer .given .1 ∙ ap PolicyLine.Good (c .before .before .entry .given .1)))
+    (fits-here ((line .before .before .before .before .before .before .before .before .before .before .loop .inv) .between) (line .before .before .before .before .before .before .before .before .seek .ensures) (inside line) (line .read-line .ensures) (c .before .before .before .before .before .answer .given .1 ∙ ap PolicyLine.Good (c .before .before .entry .given .1)))
 
 add-c : tie.Need-add-c Inv-loop μ-loop
 add-c c =
     let line = c .before .before .before .before .before .before .before .before .before in
-    omega (arith, (fits-here ((line .before .before .before .before .before .before .before .before .before .before .loop .inv) .between) (line .before .before .before .before .before .before .before .before .seek .ensures) (omega (arith, line .before .before .before .before .before .before .before .before .seek .ensures, line .before .before .before .before .before .before .before .if2 .left)) (line .read-line .ensures) (c .before .before .before .before .before .before .before .answer .given .1 ∙ ap PolicyLine.Good (c .before .before .before .before .entry .given .1))))
+    omega (arith, (fits-here ((line .before .before .before .before .before .before .before .before .before .before .loop .inv) .between) (line .before .before .before .before .before .before .before .before .seek .ensures) (inside line) (line .read-line .ensures) (c .before .before .before .before .before .before .before .answer .given .1 ∙ ap PolicyLine.Good (c .before .before .before .before .entry .given .1))))
 
 loop-less-2 : tie.Need-loop-less-2 Inv-loop μ-loop
-loop-less-2 c = omega (arith, c .before .before .before .before .before .before .before .before .before .before .before .before .before .before .before .before .before .seek .ensures, c .before .before .before .before .before .before .before .before .before .before .before .before .before .before .before .before .before .before .loop-test .taken)
+loop-less-2 c = nearer (c .before .before .before .before .before .before .before .before .before)
 
 loop-again-2 : tie.Need-loop-again-2 Inv-loop μ-loop
 loop-again-2 c =
     let line = c .before .before .before .before .before .before .before .before .before in
-    role-added (line .before .before .before .before .before .before .before .before .before .before .loop .inv) (line .before .before .before .before .before .before .before .before .seek .ensures) (omega (arith, line .before .before .before .before .before .before .before .before .seek .ensures, line .before .before .before .before .before .before .before .if2 .left)) (line .read-line .ensures) (c .before .before .before .before .before .before .before .answer .given .1 ∙ ap PolicyLine.Good (c .before .before .before .before .entry .given .1)) (c .before .store .ensures)
+    role-added (line .before .before .before .before .before .before .before .before .before .before .loop .inv) (line .before .before .before .before .before .before .before .before .seek .ensures) (inside line) (line .read-line .ensures) (c .before .before .before .before .before .before .before .answer .given .1 ∙ ap PolicyLine.Good (c .before .before .before .before .entry .given .1)) (c .before .store .ensures)
 
 enum-known-entry-2 : tie.Need-enum-known-entry-2 Inv-loop μ-loop
 enum-known-entry-2 c = search needs
@@ -141,7 +148,7 @@ enum-known-entry-2 c = search needs
 store-requires-2 : tie.Need-store-requires-2 Inv-loop μ-loop
 store-requires-2 c κs =
     let line = c .before .before .before .before .before .before .before in
-    omega (arith, (fits-here ((line .before .before .before .before .before .before .before .before .before .before .loop .inv) .between) (line .before .before .before .before .before .before .before .before .seek .ensures) (omega (arith, line .before .before .before .before .before .before .before .before .seek .ensures, line .before .before .before .before .before .before .before .if2 .left)) (line .read-line .ensures) (c .before .before .before .before .before .answer .given .1 ∙ ap PolicyLine.Good (c .before .before .entry2 .given .1))))
+    omega (arith, (fits-here ((line .before .before .before .before .before .before .before .before .before .before .loop .inv) .between) (line .before .before .before .before .before .before .before .before .seek .ensures) (inside line) (line .read-line .ensures) (c .before .before .before .before .before .answer .given .1 ∙ ap PolicyLine.Good (c .before .before .entry2 .given .1))))
 
 empty-requires : tie.Need-empty-requires Inv-loop μ-loop
 empty-requires c κs = search needs
@@ -149,25 +156,25 @@ empty-requires c κs = search needs
 mul-t38 : tie.Need-mul-t38 Inv-loop μ-loop
 mul-t38 c =
     let line = c .before .before .before .before .before .before .before .before .before in
-    omega (arith, (fits-here ((line .before .before .before .before .before .before .before .before .before .before .loop .inv) .between) (line .before .before .before .before .before .before .before .before .seek .ensures) (omega (arith, line .before .before .before .before .before .before .before .before .seek .ensures, line .before .before .before .before .before .before .before .if2 .left)) (line .read-line .ensures) (c .before .before .before .before .before .before .before .answer .given .1 ∙ ap PolicyLine.Good (c .before .before .before .before .entry2 .given .1))))
+    omega (arith, (fits-here ((line .before .before .before .before .before .before .before .before .before .before .loop .inv) .between) (line .before .before .before .before .before .before .before .before .seek .ensures) (inside line) (line .read-line .ensures) (c .before .before .before .before .before .before .before .answer .given .1 ∙ ap PolicyLine.Good (c .before .before .before .before .entry2 .given .1))))
 
 element-set-from-d : tie.Need-element-set-from-d Inv-loop μ-loop
 element-set-from-d c =
     let line = c .before .before .before .before .before .before .before .before .before in
-    (fits-here ((line .before .before .before .before .before .before .before .before .before .before .loop .inv) .between) (line .before .before .before .before .before .before .before .before .seek .ensures) (omega (arith, line .before .before .before .before .before .before .before .before .seek .ensures, line .before .before .before .before .before .before .before .if2 .left)) (line .read-line .ensures) (c .before .before .before .before .before .before .before .answer .given .1 ∙ ap PolicyLine.Good (c .before .before .before .before .entry2 .given .1)))
+    (fits-here ((line .before .before .before .before .before .before .before .before .before .before .loop .inv) .between) (line .before .before .before .before .before .before .before .before .seek .ensures) (inside line) (line .read-line .ensures) (c .before .before .before .before .before .before .before .answer .given .1 ∙ ap PolicyLine.Good (c .before .before .before .before .entry2 .given .1)))
 
 add-c-2 : tie.Need-add-c-2 Inv-loop μ-loop
 add-c-2 c =
     let line = c .before .before .before .before .before .before .before .before .before .before in
-    omega (arith, (fits-here ((line .before .before .before .before .before .before .before .before .before .before .loop .inv) .between) (line .before .before .before .before .before .before .before .before .seek .ensures) (omega (arith, line .before .before .before .before .before .before .before .before .seek .ensures, line .before .before .before .before .before .before .before .if2 .left)) (line .read-line .ensures) (c .before .before .before .before .before .before .before .before .answer .given .1 ∙ ap PolicyLine.Good (c .before .before .before .before .before .entry2 .given .1))))
+    omega (arith, (fits-here ((line .before .before .before .before .before .before .before .before .before .before .loop .inv) .between) (line .before .before .before .before .before .before .before .before .seek .ensures) (inside line) (line .read-line .ensures) (c .before .before .before .before .before .before .before .before .answer .given .1 ∙ ap PolicyLine.Good (c .before .before .before .before .before .entry2 .given .1))))
 
 loop-less-3 : tie.Need-loop-less-3 Inv-loop μ-loop
-loop-less-3 c = omega (arith, c .before .before .before .before .before .before .before .before .before .before .before .before .before .before .before .before .before .before .seek .ensures, c .before .before .before .before .before .before .before .before .before .before .before .before .before .before .before .before .before .before .before .loop-test .taken)
+loop-less-3 c = nearer (c .before .before .before .before .before .before .before .before .before .before)
 
 loop-again-3 : tie.Need-loop-again-3 Inv-loop μ-loop
 loop-again-3 c =
     let line = c .before .before .before .before .before .before .before .before .before .before in
-    user-added (line .before .before .before .before .before .before .before .before .before .before .loop .inv) (line .before .before .before .before .before .before .before .before .seek .ensures) (omega (arith, line .before .before .before .before .before .before .before .before .seek .ensures, line .before .before .before .before .before .before .before .if2 .left)) (line .read-line .ensures) (c .before .before .before .before .before .before .before .before .answer .given .1 ∙ ap PolicyLine.Good (c .before .before .before .before .before .entry2 .given .1)) (c .before .before .store2 .ensures) (c .before .empty .ensures)
+    user-added (line .before .before .before .before .before .before .before .before .before .before .loop .inv) (line .before .before .before .before .before .before .before .before .seek .ensures) (inside line) (line .read-line .ensures) (c .before .before .before .before .before .before .before .before .answer .given .1 ∙ ap PolicyLine.Good (c .before .before .before .before .before .entry2 .given .1)) (c .before .before .store2 .ensures) (c .before .empty .ensures)
 
 enum-known-entry-3 : tie.Need-enum-known-entry-3 Inv-loop μ-loop
 enum-known-entry-3 c = search needs
@@ -175,12 +182,12 @@ enum-known-entry-3 c = search needs
 mul-person : tie.Need-mul-person Inv-loop μ-loop
 mul-person c =
     let line = c .before .before .before .before .before .before in
-    omega (arith, (fits-here ((line .before .before .before .before .before .before .before .before .before .before .loop .inv) .between) (line .before .before .before .before .before .before .before .before .seek .ensures) (omega (arith, line .before .before .before .before .before .before .before .before .seek .ensures, line .before .before .before .before .before .before .before .if2 .left)) (line .read-line .ensures) (c .before .before .before .before .answer .given .1 ∙ ap PolicyLine.Good (c .before .entry3 .given .1))), user-limit (line .before .before .before .before .before .before .before .before .before .before .loop .inv))
+    omega (arith, (fits-here ((line .before .before .before .before .before .before .before .before .before .before .loop .inv) .between) (line .before .before .before .before .before .before .before .before .seek .ensures) (inside line) (line .read-line .ensures) (c .before .before .before .before .answer .given .1 ∙ ap PolicyLine.Good (c .before .entry3 .given .1))), user-limit (line .before .before .before .before .before .before .before .before .before .before .loop .inv))
 
 element-copy-out-person : tie.Need-element-copy-out-person Inv-loop μ-loop
 element-copy-out-person c =
     let line = c .before .before .before .before .before .before in
-    omega (arith, (fits-here ((line .before .before .before .before .before .before .before .before .before .before .loop .inv) .between) (line .before .before .before .before .before .before .before .before .seek .ensures) (omega (arith, line .before .before .before .before .before .before .before .before .seek .ensures, line .before .before .before .before .before .before .before .if2 .left)) (line .read-line .ensures) (c .before .before .before .before .answer .given .1 ∙ ap PolicyLine.Good (c .before .entry3 .given .1))), user-limit (line .before .before .before .before .before .before .before .before .before .before .loop .inv))
+    omega (arith, (fits-here ((line .before .before .before .before .before .before .before .before .before .before .loop .inv) .between) (line .before .before .before .before .before .before .before .before .seek .ensures) (inside line) (line .read-line .ensures) (c .before .before .before .before .answer .given .1 ∙ ap PolicyLine.Good (c .before .entry3 .given .1))), user-limit (line .before .before .before .before .before .before .before .before .before .before .loop .inv))
 
 has-requires : tie.Need-has-requires Inv-loop μ-loop
 has-requires c κs = search needs
@@ -191,7 +198,7 @@ refused-requires-5 c κs = search needs
 returns-4 : tie.Need-returns-4 Inv-loop μ-loop
 returns-4 c =
     let line = c .before .before .before .before .before .before .before .before .before .before .before in
-    c .refused5 .ensures ∙ has-refused (line .before .before .before .before .before .before .before .before .before .before .loop .inv) (line .before .before .before .before .before .before .before .before .seek .ensures) (omega (arith, line .before .before .before .before .before .before .before .before .seek .ensures, line .before .before .before .before .before .before .before .if2 .left)) (line .read-line .ensures) (c .before .before .before .before .before .before .before .before .before .answer .given .1 ∙ ap PolicyLine.Good (c .before .before .before .before .before .before .entry3 .given .1)) _ refl (sym (c .before .before .has .ensures) ∙ c .before .if3 .taken)
+    c .refused5 .ensures ∙ has-refused (line .before .before .before .before .before .before .before .before .before .before .loop .inv) (line .before .before .before .before .before .before .before .before .seek .ensures) (inside line) (line .read-line .ensures) (c .before .before .before .before .before .before .before .before .before .answer .given .1 ∙ ap PolicyLine.Good (c .before .before .before .before .before .before .entry3 .given .1)) _ refl (sym (c .before .before .has .ensures) ∙ c .before .if3 .taken)
 
 with-requires : tie.Need-with-requires Inv-loop μ-loop
 with-requires c κs = search needs
@@ -199,25 +206,25 @@ with-requires c κs = search needs
 mul-t41 : tie.Need-mul-t41 Inv-loop μ-loop
 mul-t41 c =
     let line = c .before .before .before .before .before .before .before .before .before .before .before in
-    omega (arith, (fits-here ((line .before .before .before .before .before .before .before .before .before .before .loop .inv) .between) (line .before .before .before .before .before .before .before .before .seek .ensures) (omega (arith, line .before .before .before .before .before .before .before .before .seek .ensures, line .before .before .before .before .before .before .before .if2 .left)) (line .read-line .ensures) (c .before .before .before .before .before .before .before .before .before .answer .given .1 ∙ ap PolicyLine.Good (c .before .before .before .before .before .before .entry3 .given .1))), user-limit (line .before .before .before .before .before .before .before .before .before .before .loop .inv))
+    omega (arith, (fits-here ((line .before .before .before .before .before .before .before .before .before .before .loop .inv) .between) (line .before .before .before .before .before .before .before .before .seek .ensures) (inside line) (line .read-line .ensures) (c .before .before .before .before .before .before .before .before .before .answer .given .1 ∙ ap PolicyLine.Good (c .before .before .before .before .before .before .entry3 .given .1))), user-limit (line .before .before .before .before .before .before .before .before .before .before .loop .inv))
 
 element-set-from-d-2 : tie.Need-element-set-from-d-2 Inv-loop μ-loop
 element-set-from-d-2 c =
     let line = c .before .before .before .before .before .before .before .before .before .before .before in
-    omega (arith, (fits-here ((line .before .before .before .before .before .before .before .before .before .before .loop .inv) .between) (line .before .before .before .before .before .before .before .before .seek .ensures) (omega (arith, line .before .before .before .before .before .before .before .before .seek .ensures, line .before .before .before .before .before .before .before .if2 .left)) (line .read-line .ensures) (c .before .before .before .before .before .before .before .before .before .answer .given .1 ∙ ap PolicyLine.Good (c .before .before .before .before .before .before .entry3 .given .1))), user-limit (line .before .before .before .before .before .before .before .before .before .before .loop .inv))
+    omega (arith, (fits-here ((line .before .before .before .before .before .before .before .before .before .before .loop .inv) .between) (line .before .before .before .before .before .before .before .before .seek .ensures) (inside line) (line .read-line .ensures) (c .before .before .before .before .before .before .before .before .before .answer .given .1 ∙ ap PolicyLine.Good (c .before .before .before .before .before .before .entry3 .given .1))), user-limit (line .before .before .before .before .before .before .before .before .before .before .loop .inv))
 
 loop-less-4 : tie.Need-loop-less-4 Inv-loop μ-loop
-loop-less-4 c = omega (arith, c .before .before .before .before .before .before .before .before .before .before .before .before .before .before .before .before .before .before .before .seek .ensures, c .before .before .before .before .before .before .before .before .before .before .before .before .before .before .before .before .before .before .before .before .loop-test .taken)
+loop-less-4 c = nearer (c .before .before .before .before .before .before .before .before .before .before .before)
 
 loop-again-4 : tie.Need-loop-again-4 Inv-loop μ-loop
 loop-again-4 c =
     let line = c .before .before .before .before .before .before .before .before .before .before .before in
-    has-added (line .before .before .before .before .before .before .before .before .before .before .loop .inv) (line .before .before .before .before .before .before .before .before .seek .ensures) (omega (arith, line .before .before .before .before .before .before .before .before .seek .ensures, line .before .before .before .before .before .before .before .if2 .left)) (line .read-line .ensures) (c .before .before .before .before .before .before .before .before .before .answer .given .1 ∙ ap PolicyLine.Good (c .before .before .before .before .before .before .entry3 .given .1)) _ refl (sym (c .before .before .has .ensures) ∙ c .before .if3 .left) (c .with .ensures)
+    has-added (line .before .before .before .before .before .before .before .before .before .before .loop .inv) (line .before .before .before .before .before .before .before .before .seek .ensures) (inside line) (line .read-line .ensures) (c .before .before .before .before .before .before .before .before .before .answer .given .1 ∙ ap PolicyLine.Good (c .before .before .before .before .before .before .entry3 .given .1)) _ refl (sym (c .before .before .has .ensures) ∙ c .before .if3 .left) (c .with .ensures)
 
 returns-5 : tie.Need-returns-5 Inv-loop μ-loop
 returns-5 c =
     let line = c .before .before .before .before in
-    line-below (line .before .before .before .before .before .before .before .before .before .before .loop .inv) (line .before .before .before .before .before .before .before .before .seek .ensures) (omega (arith, line .before .before .before .before .before .before .before .before .seek .ensures, line .before .before .before .before .before .before .before .if2 .left)) (line .read-line .ensures) (c .before .before .answer .given .0 .0) (c .before .before .answer .given .1) (of-rules (c .before .before .answer .given .0 .0) (c .match2 .keys5))
+    line-below (line .before .before .before .before .before .before .before .before .before .before .loop .inv) (line .before .before .before .before .before .before .before .before .seek .ensures) (inside line) (line .read-line .ensures) (c .before .before .answer .given .0 .0) (c .before .before .answer .given .1) (of-rules (c .before .before .answer .given .0 .0) (c .match2 .keys5))
 
 refused-requires-6 : tie.Need-refused-requires-6 Inv-loop μ-loop
 refused-requires-6 c κs = search needs

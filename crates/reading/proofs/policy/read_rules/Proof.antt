@@ -1,5 +1,5 @@
 -- `read_rules` goes from line to line: the arrays hold what the lines so far say, and the rest of the text decides.
-use Prim.Native.Nat.{ℕ, _-_, _≤_, _<_}
+use Prim.Native.Nat.{ℕ, _+_, _-_, _≤_, _<_}
 use borrow.Author.Needs.{needs}
 use denote.Enum.Declared.{tagOf}
 use lib.ListN.{length}
@@ -42,6 +42,14 @@ Inv-loop text roles users place line end r₀ c₀ at₀ number₀ r c at number
 
 abbrev μ-loop : tie.MeasureT-loop
 μ-loop text roles users place line end r₀ c₀ at₀ number₀ r c at number = length text - at
+
+-- after a line was read: it ends within the text
+inside : (c : tie.After-read-line Inv-loop μ-loop) → c .before .before .before .seek .result < length (c .before .before .before .before .before .before .before .before .before .before .args .text .now)
+inside c = omega (arith, c .before .before .before .seek .ensures, c .before .before .if1 .left)
+
+-- and the measure falls with the next
+nearer : (c : tie.After-read-line Inv-loop μ-loop) → length (c .before .before .before .before .before .before .before .before .before .before .args .text .now) - (c .before .before .before .seek .result + 1) < length (c .before .before .before .before .before .before .before .before .before .before .args .text .now) - c .before .before .before .before .before .loop .at
+nearer c = omega (arith, c .before .before .before .seek .ensures, c .before .before .before .before .loop-test .taken)
 
 refused-requires : tie.Need-refused-requires Inv-loop μ-loop
 refused-requires c κs = search needs
@@ -92,7 +100,7 @@ returns-2 : tie.Need-returns-2 Inv-loop μ-loop
 unfolding codeOf
 returns-2 c =
     let line = c .before .before .before .before in
-    c .refused3 .ensures ∙ ap (λ (k : ℕ). refusedRules k (line .before .before .before .before .before .loop .number)) (c .before .code .ensures ∙ ap codeOf (c .before .before .enum-told .given .1)) ∙ line-refused (line .before .before .before .before .before .loop .inv) (line .before .before .before .seek .ensures) (omega (arith, line .before .before .before .seek .ensures, line .before .before .if1 .left)) (line .read-line .ensures) (c .before .before .enum-told .given .1)
+    c .refused3 .ensures ∙ ap (λ (k : ℕ). refusedRules k (line .before .before .before .before .before .loop .number)) (c .before .code .ensures ∙ ap codeOf (c .before .before .enum-told .given .1)) ∙ line-refused (line .before .before .before .before .before .loop .inv) (line .before .before .before .seek .ensures) (inside line) (line .read-line .ensures) (c .before .before .enum-told .given .1)
 
 enum-known-entry : tie.Need-enum-known-entry Inv-loop μ-loop
 enum-known-entry c = search needs
@@ -100,25 +108,25 @@ enum-known-entry c = search needs
 mul-rule : tie.Need-mul-rule Inv-loop μ-loop
 mul-rule c =
     let line = c .before .before .before .before .before .before in
-    omega (arith, (fits-here ((line .before .before .before .before .before .loop .inv) .between) (line .before .before .before .seek .ensures) (omega (arith, line .before .before .before .seek .ensures, line .before .before .if1 .left)) (line .read-line .ensures) (c .before .before .before .before .answer .given .1 ∙ ap PolicyLine.Good (c .before .entry .given .1))))
+    omega (arith, (fits-here ((line .before .before .before .before .before .loop .inv) .between) (line .before .before .before .seek .ensures) (inside line) (line .read-line .ensures) (c .before .before .before .before .answer .given .1 ∙ ap PolicyLine.Good (c .before .entry .given .1))))
 
 element-set-from-rule : tie.Need-element-set-from-rule Inv-loop μ-loop
 element-set-from-rule c =
     let line = c .before .before .before .before .before .before in
-    (fits-here ((line .before .before .before .before .before .loop .inv) .between) (line .before .before .before .seek .ensures) (omega (arith, line .before .before .before .seek .ensures, line .before .before .if1 .left)) (line .read-line .ensures) (c .before .before .before .before .answer .given .1 ∙ ap PolicyLine.Good (c .before .entry .given .1)))
+    (fits-here ((line .before .before .before .before .before .loop .inv) .between) (line .before .before .before .seek .ensures) (inside line) (line .read-line .ensures) (c .before .before .before .before .answer .given .1 ∙ ap PolicyLine.Good (c .before .entry .given .1)))
 
 add-c : tie.Need-add-c Inv-loop μ-loop
 add-c c =
     let line = c .before .before .before .before .before .before .before in
-    omega (arith, (fits-here ((line .before .before .before .before .before .loop .inv) .between) (line .before .before .before .seek .ensures) (omega (arith, line .before .before .before .seek .ensures, line .before .before .if1 .left)) (line .read-line .ensures) (c .before .before .before .before .before .answer .given .1 ∙ ap PolicyLine.Good (c .before .before .entry .given .1))))
+    omega (arith, (fits-here ((line .before .before .before .before .before .loop .inv) .between) (line .before .before .before .seek .ensures) (inside line) (line .read-line .ensures) (c .before .before .before .before .before .answer .given .1 ∙ ap PolicyLine.Good (c .before .before .entry .given .1))))
 
 loop-less : tie.Need-loop-less Inv-loop μ-loop
-loop-less c = omega (arith, c .before .before .before .before .before .before .before .before .before .before .seek .ensures, c .before .before .before .before .before .before .before .before .before .before .before .loop-test .taken)
+loop-less c = nearer (c .before .before .before .before .before .before .before)
 
 loop-again : tie.Need-loop-again Inv-loop μ-loop
 loop-again c =
     let line = c .before .before .before .before .before .before .before in
-    assign-added (line .before .before .before .before .before .loop .inv) (line .before .before .before .seek .ensures) (omega (arith, line .before .before .before .seek .ensures, line .before .before .if1 .left)) (line .read-line .ensures) (c .before .before .before .before .before .answer .given .1 ∙ ap PolicyLine.Good (c .before .before .entry .given .1))
+    assign-added (line .before .before .before .before .before .loop .inv) (line .before .before .before .seek .ensures) (inside line) (line .read-line .ensures) (c .before .before .before .before .before .answer .given .1 ∙ ap PolicyLine.Good (c .before .before .entry .given .1))
 
 enum-known-entry-2 : tie.Need-enum-known-entry-2 Inv-loop μ-loop
 enum-known-entry-2 c = search needs
@@ -126,25 +134,25 @@ enum-known-entry-2 c = search needs
 mul-rule-2 : tie.Need-mul-rule-2 Inv-loop μ-loop
 mul-rule-2 c =
     let line = c .before .before .before .before .before .before in
-    omega (arith, (fits-here ((line .before .before .before .before .before .loop .inv) .between) (line .before .before .before .seek .ensures) (omega (arith, line .before .before .before .seek .ensures, line .before .before .if1 .left)) (line .read-line .ensures) (c .before .before .before .before .answer .given .1 ∙ ap PolicyLine.Good (c .before .entry2 .given .1))))
+    omega (arith, (fits-here ((line .before .before .before .before .before .loop .inv) .between) (line .before .before .before .seek .ensures) (inside line) (line .read-line .ensures) (c .before .before .before .before .answer .given .1 ∙ ap PolicyLine.Good (c .before .entry2 .given .1))))
 
 element-set-from-rule-2 : tie.Need-element-set-from-rule-2 Inv-loop μ-loop
 element-set-from-rule-2 c =
     let line = c .before .before .before .before .before .before in
-    (fits-here ((line .before .before .before .before .before .loop .inv) .between) (line .before .before .before .seek .ensures) (omega (arith, line .before .before .before .seek .ensures, line .before .before .if1 .left)) (line .read-line .ensures) (c .before .before .before .before .answer .given .1 ∙ ap PolicyLine.Good (c .before .entry2 .given .1)))
+    (fits-here ((line .before .before .before .before .before .loop .inv) .between) (line .before .before .before .seek .ensures) (inside line) (line .read-line .ensures) (c .before .before .before .before .answer .given .1 ∙ ap PolicyLine.Good (c .before .entry2 .given .1)))
 
 add-c-2 : tie.Need-add-c-2 Inv-loop μ-loop
 add-c-2 c =
     let line = c .before .before .before .before .before .before .before in
-    omega (arith, (fits-here ((line .before .before .before .before .before .loop .inv) .between) (line .before .before .before .seek .ensures) (omega (arith, line .before .before .before .seek .ensures, line .before .before .if1 .left)) (line .read-line .ensures) (c .before .before .before .before .before .answer .given .1 ∙ ap PolicyLine.Good (c .before .before .entry2 .given .1))))
+    omega (arith, (fits-here ((line .before .before .before .before .before .loop .inv) .between) (line .before .before .before .seek .ensures) (inside line) (line .read-line .ensures) (c .before .before .before .before .before .answer .given .1 ∙ ap PolicyLine.Good (c .before .before .entry2 .given .1))))
 
 loop-less-2 : tie.Need-loop-less-2 Inv-loop μ-loop
-loop-less-2 c = omega (arith, c .before .before .before .before .before .before .before .before .before .before .seek .ensures, c .before .before .before .before .before .before .before .before .before .before .before .loop-test .taken)
+loop-less-2 c = nearer (c .before .before .before .before .before .before .before)
 
 loop-again-2 : tie.Need-loop-again-2 Inv-loop μ-loop
 loop-again-2 c =
     let line = c .before .before .before .before .before .before .before in
-    revoke-added (line .before .before .before .before .before .loop .inv) (line .before .before .before .seek .ensures) (omega (arith, line .before .before .before .seek .ensures, line .before .before .if1 .left)) (line .read-line .ensures) (c .before .before .before .before .before .answer .given .1 ∙ ap PolicyLine.Good (c .before .before .entry2 .given .1))
+    revoke-added (line .before .before .before .before .before .loop .inv) (line .before .before .before .seek .ensures) (inside line) (line .read-line .ensures) (c .before .before .before .before .before .answer .given .1 ∙ ap PolicyLine.Good (c .before .before .entry2 .given .1))
 
 enum-known-entry-3 : tie.Need-enum-known-entry-3 Inv-loop μ-loop
 enum-known-entry-3 c = search needs
@@ -152,25 +160,25 @@ enum-known-entry-3 c = search needs
 mul-goal : tie.Need-mul-goal Inv-loop μ-loop
 mul-goal c =
     let line = c .before .before .before .before .before .before in
-    omega (arith, (fits-here ((line .before .before .before .before .before .loop .inv) .between) (line .before .before .before .seek .ensures) (omega (arith, line .before .before .before .seek .ensures, line .before .before .if1 .left)) (line .read-line .ensures) (c .before .before .before .before .answer .given .1 ∙ ap PolicyLine.Good (c .before .entry3 .given .1))))
+    omega (arith, (fits-here ((line .before .before .before .before .before .loop .inv) .between) (line .before .before .before .seek .ensures) (inside line) (line .read-line .ensures) (c .before .before .before .before .answer .given .1 ∙ ap PolicyLine.Good (c .before .entry3 .given .1))))
 
 element-set-from-goal : tie.Need-element-set-from-goal Inv-loop μ-loop
 element-set-from-goal c =
     let line = c .before .before .before .before .before .before in
-    (fits-here ((line .before .before .before .before .before .loop .inv) .between) (line .before .before .before .seek .ensures) (omega (arith, line .before .before .before .seek .ensures, line .before .before .if1 .left)) (line .read-line .ensures) (c .before .before .before .before .answer .given .1 ∙ ap PolicyLine.Good (c .before .entry3 .given .1)))
+    (fits-here ((line .before .before .before .before .before .loop .inv) .between) (line .before .before .before .seek .ensures) (inside line) (line .read-line .ensures) (c .before .before .before .before .answer .given .1 ∙ ap PolicyLine.Good (c .before .entry3 .given .1)))
 
 add-c-3 : tie.Need-add-c-3 Inv-loop μ-loop
 add-c-3 c =
     let line = c .before .before .before .before .before .before .before in
-    omega (arith, (fits-here ((line .before .before .before .before .before .loop .inv) .between) (line .before .before .before .seek .ensures) (omega (arith, line .before .before .before .seek .ensures, line .before .before .if1 .left)) (line .read-line .ensures) (c .before .before .before .before .before .answer .given .1 ∙ ap PolicyLine.Good (c .before .before .entry3 .given .1))))
+    omega (arith, (fits-here ((line .before .before .before .before .before .loop .inv) .between) (line .before .before .before .seek .ensures) (inside line) (line .read-line .ensures) (c .before .before .before .before .before .answer .given .1 ∙ ap PolicyLine.Good (c .before .before .entry3 .given .1))))
 
 loop-less-3 : tie.Need-loop-less-3 Inv-loop μ-loop
-loop-less-3 c = omega (arith, c .before .before .before .before .before .before .before .before .before .before .seek .ensures, c .before .before .before .before .before .before .before .before .before .before .before .loop-test .taken)
+loop-less-3 c = nearer (c .before .before .before .before .before .before .before)
 
 loop-again-3 : tie.Need-loop-again-3 Inv-loop μ-loop
 loop-again-3 c =
     let line = c .before .before .before .before .before .before .before in
-    goal-added (line .before .before .before .before .before .loop .inv) (line .before .before .before .seek .ensures) (omega (arith, line .before .before .before .seek .ensures, line .before .before .if1 .left)) (line .read-line .ensures) (c .before .before .before .before .before .answer .given .1 ∙ ap PolicyLine.Good (c .before .before .entry3 .given .1))
+    goal-added (line .before .before .before .before .before .loop .inv) (line .before .before .before .seek .ensures) (inside line) (line .read-line .ensures) (c .before .before .before .before .before .answer .given .1 ∙ ap PolicyLine.Good (c .before .before .entry3 .given .1))
 
 enum-told-2 : tie.Need-enum-told-2 Inv-loop μ-loop
 enum-told-2 c = search needs
@@ -181,12 +189,12 @@ refused-requires-4 c κs = search needs
 returns-3 : tie.Need-returns-3 Inv-loop μ-loop
 returns-3 c =
     let line = c .before .before .before .before .before .before .before in
-    c .refused4 .ensures ∙ line-more (line .before .before .before .before .before .loop .inv) (line .before .before .before .seek .ensures) (omega (arith, line .before .before .before .seek .ensures, line .before .before .if1 .left)) (line .read-line .ensures) (c .before .before .before .before .before .answer .given .1 ∙ ap PolicyLine.Good (c .before .before .enum-told2 .given .1)) (c .before .if2 .taken)
+    c .refused4 .ensures ∙ line-more (line .before .before .before .before .before .loop .inv) (line .before .before .before .seek .ensures) (inside line) (line .read-line .ensures) (c .before .before .before .before .before .answer .given .1 ∙ ap PolicyLine.Good (c .before .before .enum-told2 .given .1)) (c .before .if2 .taken)
 
 returns-4 : tie.Need-returns-4 Inv-loop μ-loop
 returns-4 c =
     let line = c .before .before .before .before .before .before in
-    line-last (line .before .before .before .before .before .loop .inv) (line .before .before .before .seek .ensures) (omega (arith, line .before .before .before .seek .ensures, line .before .before .if1 .left)) (line .read-line .ensures) (c .before .before .before .before .answer .given .1 ∙ ap PolicyLine.Good (c .before .enum-told2 .given .1)) (c .if2 .left) (laid-counts (line .before .before .before .before .before .loop .inv))
+    line-last (line .before .before .before .before .before .loop .inv) (line .before .before .before .seek .ensures) (inside line) (line .read-line .ensures) (c .before .before .before .before .answer .given .1 ∙ ap PolicyLine.Good (c .before .enum-told2 .given .1)) (c .if2 .left) (laid-counts (line .before .before .before .before .before .loop .inv))
 
 refused-requires-5 : tie.Need-refused-requires-5 Inv-loop μ-loop
 refused-requires-5 c κs = search needs
@@ -194,7 +202,7 @@ refused-requires-5 c κs = search needs
 returns-5 : tie.Need-returns-5 Inv-loop μ-loop
 returns-5 c =
     let line = c .before .before .before .before .before in
-    absurd (none-of-directory (line .before .before .before .before .before .loop .inv) (line .before .before .before .seek .ensures) (omega (arith, line .before .before .before .seek .ensures, line .before .before .if1 .left)) (line .read-line .ensures) (c .before .before .before .answer .given .1) (of-directory (c .before .before .before .answer .given .0 .0) (c .before .match2 .keys5)))
+    absurd (none-of-directory (line .before .before .before .before .before .loop .inv) (line .before .before .before .seek .ensures) (inside line) (line .read-line .ensures) (c .before .before .before .answer .given .1) (of-directory (c .before .before .before .answer .given .0 .0) (c .before .match2 .keys5)))
 
 refused-requires-6 : tie.Need-refused-requires-6 Inv-loop μ-loop
 refused-requires-6 c κs = search needs
