@@ -6,10 +6,10 @@ use lib.Dec.{leb}
 use lib.ListN.{length}
 use Rattle.places.specs.Place.{badPlace}
 use Rattle.writing.specs.Written.{put}
-use Rattle.merging.specs.declared.SumAnswer.{SumAnswer}
+use Rattle.summing.specs.declared.SumAnswer.{SumAnswer}
+use Rattle.summing.specs.Outcome.{Outcome, bufferAfter}
+use Rattle.summing.specs.Sum as sum
 use Rattle.merging.specs.declared.MergeAnswer.{MergeAnswer}
-use Rattle.merging.specs.Outcome.{Outcome, bufferAfter}
-use Rattle.merging.specs.Sum as sum
 use Rattle.merging.specs.Merge as merge
 use Rattle.answering.specs.declared.Answer.{Answer}
 use Rattle.answering.specs.Answers.{numberOf, valuesOf}

@@ -12,7 +12,7 @@ use Rattle.tables.specs.declared.Name.{Name}
 use Rattle.places.specs.Place.{badPlace, badLine}
 use Rattle.judging.specs.declared.Part.{Part}
 use Rattle.writing.specs.Spelling.{decimal-length, spelled-length}
-use Rattle.merging.specs.declared.SumAnswer.{SumAnswer}
+use Rattle.summing.specs.declared.SumAnswer.{SumAnswer}
 use Rattle.merging.specs.declared.MergeAnswer.{MergeAnswer}
 use Rattle.answering.specs.declared.Answer.{Answer}
 use Rattle.answering.specs.Answers.{nameAt}

@@ -18,7 +18,7 @@ use Rattle.reading.specs.Kept.{read-bounded}
 use Rattle.steps.specs.Exact.{ran-run}
 use Rattle.writing.specs.Written.{put}
 use Rattle.writing.specs.Buffers.{Wrote, wrote-as}
-use Rattle.merging.specs.Outcome.{Outcome, answerIn, bufferAfter, Meets}
+use Rattle.summing.specs.Outcome.{Outcome, answerIn, bufferAfter, Meets}
 use Rattle.answering.specs.declared.Answer.{Answer}
 use Rattle.answering.specs.Answers.{answerOf}
 use Rattle.answering.specs.Exact.{attacked-exact}

@@ -4,7 +4,7 @@ mod numbers;
 
 pub use answering::check;
 pub use merging::merge::merge;
-pub use merging::sums::sum;
 pub use places::bad_line;
 pub use places::bad_place;
 pub use printing::check_line;
+pub use summing::sum;

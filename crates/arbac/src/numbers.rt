@@ -7,7 +7,7 @@ ghost use Rattle.arbac.specs.FaceLaws.{UserListed};
 use answering::Answer;
 use judging::part_number;
 use merging::MergeAnswer;
-use merging::SumAnswer;
+use summing::SumAnswer;
 
 // Puts numbers at the start of an array, and answers how many there are.
 pub(crate) fn write_numbers(values: &mut [u64], numbers: &[u64]) -> usize

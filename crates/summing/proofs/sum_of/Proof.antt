@@ -3,9 +3,9 @@ use Prim.Native.Nat.{_-_}
 use borrow.Author.Needs.{needs}
 use lib.ListN.{length-map}
 use native.Mathlib.Omega.{arith}
-use Rattle.merging.specs.Summing.{Summed, summed-start, summed-next, summed-end}
-use Rattle.merging.proofs.sums.sum_of.Statement.{statement}
-use Rattle.merging.proofs.sums.sum_of.Tie as tie
+use Rattle.summing.specs.Summing.{Summed, summed-start, summed-next, summed-end}
+use Rattle.summing.proofs.sum_of.Statement.{statement}
+use Rattle.summing.proofs.sum_of.Tie as tie
 
 abbrev Inv-loop : tie.InvT-loop
 Inv-loop t u s₀ role₀ s role = Summed t u s role

@@ -9,8 +9,8 @@ use native.Mathlib.Omega.{arith}
 use Rattle.roles.specs.declared.RoleSet.{RoleSet}
 use Rattle.roles.specs.Sets.{unionOf}
 use Rattle.model.specs.declared.Typing.{Typing as Table}
-use Rattle.merging.specs.Sums.{paired, sumOf}
-use Rattle.merging.specs.SumLaws.{Full}
+use Rattle.summing.specs.Sums.{paired, sumOf}
+use Rattle.summing.specs.SumLaws.{Full}
 
 module _ {A : Type 0} (f : A → A → A) where
   -- the sum of so many first elements, then the first list

@@ -11,7 +11,7 @@ use Rattle.tables.specs.declared.Name.{Name}
 use Rattle.reading.specs.Texts.{Reading, read, refused}
 use Rattle.writing.specs.Written.{put}
 use Rattle.spelling.specs.TypingText.{typingText}
-use Rattle.merging.specs.Outcome.{Outcome, leaves, writes, answerIn, bufferAfter, whenRead, fits, fitting, Meets}
+use Rattle.summing.specs.Outcome.{Outcome, leaves, writes, answerIn, bufferAfter, whenRead, fits, fitting, Meets}
 
 module _ {A : Type 0} {before : List ℕ} {answer : A} where
   -- the same outcome told in another way

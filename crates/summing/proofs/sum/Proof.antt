@@ -1,13 +1,13 @@
 -- `sum` reads the policy, the first typing and the second, each refusal at once, adds the typings and hands the sum on.
 use mathlib.Core.Path.{ap₂, _∙_}
 use Rattle.reading.specs.Told.{Told, directory-untold, directory-told, opened, rules-untold, told, roles-laid}
-use Rattle.merging.specs.Sums.{sumOf}
-use Rattle.merging.specs.Layout.{table-room, typing-read, typing-refused}
-use Rattle.merging.specs.Meeting.{meets-as, meets-leaving}
-use Rattle.merging.specs.SumOutcomes.{sum-policy-refused, sum-first-refused, sum-second-refused, sum-read}
+use Rattle.summing.specs.Sums.{sumOf}
+use Rattle.summing.specs.Layout.{table-room, typing-read, typing-refused}
+use Rattle.summing.specs.Meeting.{meets-as, meets-leaving}
+use Rattle.summing.specs.SumOutcomes.{sum-policy-refused, sum-first-refused, sum-second-refused, sum-read}
 use borrow.Author.Needs.{needs}
-use Rattle.merging.proofs.sums.sum.Statement.{statement}
-use Rattle.merging.proofs.sums.sum.Tie as tie
+use Rattle.summing.proofs.sum.Statement.{statement}
+use Rattle.summing.proofs.sum.Tie as tie
 
 -- where the rules are read
 policy-told : (c : tie.Else2) → Told (c .before .before .before .before .before .before .before .before .before .before .before .before .before .before .before .args .policy .now) (c .before .before .before .before .before .before .before .before .before .before .read-directory .result) (c .before .before .read-rules .result)

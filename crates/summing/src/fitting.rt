@@ -3,7 +3,7 @@ ghost use Prim.Native.Nat.{_*_, _≤_};
 ghost use lib.ListN.{length};
 ghost use Rattle.tables.specs.Names.{rows};
 ghost use Rattle.spelling.specs.TypingText.{typingText};
-ghost use Rattle.merging.specs.Outcome.{Meets, fitting};
+ghost use Rattle.summing.specs.Outcome.{Meets, fitting};
 use model::Typing;
 use spelling::text_length;
 use spelling::write_typing;

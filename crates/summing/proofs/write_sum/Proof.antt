@@ -2,10 +2,10 @@
 use mathlib.Core.Path.{sym, ap, _∙_}
 use Rattle.tables.specs.Names.{rows-length}
 use Rattle.judging.specs.Verdict.{pinnedNames}
-use Rattle.merging.specs.SumOutcomes.{sum-unwritten, sum-written}
+use Rattle.summing.specs.SumOutcomes.{sum-unwritten, sum-written}
 use borrow.Author.Needs.{needs}
-use Rattle.merging.proofs.sums.write_sum.Statement.{statement}
-use Rattle.merging.proofs.sums.write_sum.Tie as tie
+use Rattle.summing.proofs.write_sum.Statement.{statement}
+use Rattle.summing.proofs.write_sum.Tie as tie
 
 write-fitting-requires : tie.Need-write-fitting-requires
 write-fitting-requires c κs = search needs

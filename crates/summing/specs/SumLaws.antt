@@ -12,7 +12,7 @@ use Rattle.model.specs.Typing.{sum}
 use Rattle.model.specs.Meaning.{meaning}
 use Rattle.reading.specs.Policy.{padded}
 use Rattle.typings.specs.TypingText.{Typed, tableOf}
-use Rattle.merging.specs.Sums.{paired, sumOf}
+use Rattle.summing.specs.Sums.{paired, sumOf}
 
 -- ---- two lists of the same length, element by element
 

@@ -9,9 +9,9 @@ use Rattle.reading.specs.Policy.{Said, readPolicy}
 use Rattle.typings.specs.TypingText.{Typed, readTyping, tableOf}
 use Rattle.judging.specs.Verdict.{pinnedNames}
 use Rattle.spelling.specs.TypingText.{typingText}
-use Rattle.merging.specs.declared.SumAnswer.{SumAnswer}
-use Rattle.merging.specs.Sums.{sumOf}
-use Rattle.merging.specs.Outcome.{Outcome, leaves, writes, whenRead, fits}
+use Rattle.summing.specs.declared.SumAnswer.{SumAnswer}
+use Rattle.summing.specs.Sums.{sumOf}
+use Rattle.summing.specs.Outcome.{Outcome, leaves, writes, whenRead, fits}
 
 -- The sum written into a buffer with so much room, or 18.
 unfoldable pub sumWritten : ℕ → List Name → Table → Outcome SumAnswer

@@ -10,11 +10,11 @@ use Rattle.reading.specs.Policy.{Said, readPolicy}
 use Rattle.typings.specs.TypingText.{Typed, readTyping, tableOf}
 use Rattle.judging.specs.Verdict.{pinnedNames}
 use Rattle.spelling.specs.TypingText.{typingText}
-use Rattle.merging.specs.declared.SumAnswer.{SumAnswer}
-use Rattle.merging.specs.Sums.{sumOf}
-use Rattle.merging.specs.Outcome.{leaves, fitting, Meets}
-use Rattle.merging.specs.Meeting.{when-read, when-refused, text-some, none-written, all-written}
-use Rattle.merging.specs.Sum.{sumWritten, sumOutcome}
+use Rattle.summing.specs.declared.SumAnswer.{SumAnswer}
+use Rattle.summing.specs.Sums.{sumOf}
+use Rattle.summing.specs.Outcome.{leaves, fitting, Meets}
+use Rattle.summing.specs.Meeting.{when-read, when-refused, text-some, none-written, all-written}
+use Rattle.summing.specs.Sum.{sumWritten, sumOutcome}
 
 -- ---- the texts
 

@@ -1,18 +1,27 @@
-// The sum of two typings: role by role, as a text, and asked for alone.
+// The sum of two typings, as a table and as a text, asked for alone.
 ghost use mathlib.Core.Path.{_≡_};
 ghost use lib.ListN.{length};
 ghost use Prim.Native.Nat.{_*_, _≤_};
 ghost use Rattle.tables.specs.Names.{rows};
-ghost use Rattle.merging.specs.Outcome.{Meets};
-ghost use Rattle.merging.specs.Sum.{sumWritten, sumOutcome};
-ghost use Rattle.merging.specs.Sums.{sumOf};
-use crate::SumAnswer;
+ghost use Rattle.summing.specs.Outcome.{Meets};
+ghost use Rattle.summing.specs.Sum.{sumWritten, sumOutcome};
+ghost use Rattle.summing.specs.Sums.{sumOf};
 use crate::fitting::write_fitting;
 use judging::pinned;
 use model::Typing;
 use reading::directory::read_directory;
 use reading::policy::read_rules;
 use typings::read_typing;
+
+pub mod fitting;
+
+// The answer of sum.
+pub enum SumAnswer {
+    // the pinned names, and the length of the text
+    Summed(usize, usize),
+    // which text it speaks of, 1 policy, 2 first typing, 3 second typing, 0 none; the refusal's number and line
+    Refused(usize, u64, usize),
+}
 
 // The sum of two typings: a label is H when either is H, and plus and minus sets are unions.
 pub fn sum_of(t: Typing, u: Typing) -> Typing

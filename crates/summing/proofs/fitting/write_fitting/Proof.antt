@@ -1,9 +1,9 @@
 -- `write_fitting` compares the length of the text with the room and the limit, and writes where it fits.
 use native.Mathlib.Omega.{arith}
-use Rattle.merging.specs.Meeting.{fitting-room, fitting-most, fitting-written}
+use Rattle.summing.specs.Meeting.{fitting-room, fitting-most, fitting-written}
 use borrow.Author.Needs.{needs}
-use Rattle.merging.proofs.fitting.write_fitting.Statement.{statement}
-use Rattle.merging.proofs.fitting.write_fitting.Tie as tie
+use Rattle.summing.proofs.fitting.write_fitting.Statement.{statement}
+use Rattle.summing.proofs.fitting.write_fitting.Tie as tie
 
 text-length-requires : tie.Need-text-length-requires
 text-length-requires c κs = search needs
