@@ -1,6 +1,5 @@
 // The public face: check, its line, the bad line, sum and merge; and the same for C callers.
 pub mod face;
-mod numbers;
 
 pub use answering::check;
 pub use merging::merge::merge;

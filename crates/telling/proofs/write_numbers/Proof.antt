@@ -3,8 +3,8 @@ use Prim.Native.Nat.{_-_, _≤_}
 use lib.ListN.{length, take}
 use native.Mathlib.Omega.{arith}
 use Rattle.writing.specs.Buffers.{Wrote, wrote-none, wrote-next, wrote-all, wrote-length, byte-room}
-use Rattle.arbac.proofs.numbers.write_numbers.Statement.{statement}
-use Rattle.arbac.proofs.numbers.write_numbers.Tie as tie
+use Rattle.telling.proofs.write_numbers.Statement.{statement}
+use Rattle.telling.proofs.write_numbers.Tie as tie
 
 abbrev Inv-loop : tie.InvT-loop
 Inv-loop values₀ numbers at₀ values at = (at ≤ length numbers) × Wrote (take at numbers) values₀ at values

@@ -4,10 +4,10 @@ use mathlib.Core.List.{[], _∷_}
 use mathlib.Core.Path.{refl}
 use native.Mathlib.Numerals.{add-one}
 use native.Mathlib.Omega.{arith}
-use Rattle.arbac.specs.Face.{checkNumbers}
-use Rattle.arbac.specs.FaceLaws.{known-numbers, other-number}
-use Rattle.arbac.proofs.numbers.tell_check.Statement.{statement}
-use Rattle.arbac.proofs.numbers.tell_check.Tie as tie
+use Rattle.telling.specs.Numbers.{checkNumbers}
+use Rattle.telling.specs.NumberLaws.{known-numbers, other-number}
+use Rattle.telling.proofs.tell_check.Statement.{statement}
+use Rattle.telling.proofs.tell_check.Tie as tie
 
 enum-known-answer : tie.Need-enum-known-answer
 enum-known-answer c = search needs

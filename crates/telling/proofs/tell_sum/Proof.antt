@@ -1,10 +1,10 @@
 -- `tell_sum` puts the numbers of each case.
 use borrow.Author.Needs.{needs}
 use mathlib.Core.Path.{refl}
-use Rattle.arbac.specs.Face.{sumNumbers}
-use Rattle.arbac.specs.FaceLaws.{known-numbers}
-use Rattle.arbac.proofs.numbers.tell_sum.Statement.{statement}
-use Rattle.arbac.proofs.numbers.tell_sum.Tie as tie
+use Rattle.telling.specs.Numbers.{sumNumbers}
+use Rattle.telling.specs.NumberLaws.{known-numbers}
+use Rattle.telling.proofs.tell_sum.Statement.{statement}
+use Rattle.telling.proofs.tell_sum.Tie as tie
 
 enum-known-answer : tie.Need-enum-known-answer
 enum-known-answer c = search needs

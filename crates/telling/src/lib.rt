@@ -1,16 +1,15 @@
-// The numbers of an answer, put at the start of a lent array.
+// An answer told in numbers, in a lent array.
 ghost use Prim.Native.Nat.{_≤_};
 ghost use lib.ListN.{length};
 ghost use Rattle.writing.specs.Buffers.{Wrote};
-ghost use Rattle.arbac.specs.Face.{checkNumbers, sumNumbers, mergeNumbers};
-ghost use Rattle.arbac.specs.FaceLaws.{UserListed};
+ghost use Rattle.telling.specs.Numbers.{checkNumbers, sumNumbers, mergeNumbers, UserListed};
 use answering::Answer;
 use judging::part_number;
 use merging::MergeAnswer;
 use summing::SumAnswer;
 
 // Puts numbers at the start of an array, and answers how many there are.
-pub(crate) fn write_numbers(values: &mut [u64], numbers: &[u64]) -> usize
+pub fn write_numbers(values: &mut [u64], numbers: &[u64]) -> usize
     requires { ⌜ length (now numbers) ≤ length (now values) ⌝ }
     ensures { λ r. ⌜ Wrote (now (numbers .entry)) (now (values .entry)) r (now (values .exit)) ⌝ }
 {
@@ -23,7 +22,7 @@ pub(crate) fn write_numbers(values: &mut [u64], numbers: &[u64]) -> usize
 }
 
 // Puts the numbers of an answer of `check` at the start of an array, and answers how many there are.
-pub(crate) fn tell_check(values: &mut [u64], answer: Answer) -> usize
+pub fn tell_check(values: &mut [u64], answer: Answer) -> usize
     requires { ⌜ (6 ≤ length (now values)) × UserListed answer ⌝ }
     ensures { λ r. ⌜ Wrote (checkNumbers answer) (now (values .entry)) r (now (values .exit)) ⌝ }
 {
@@ -52,7 +51,7 @@ pub(crate) fn tell_check(values: &mut [u64], answer: Answer) -> usize
 }
 
 // Puts the numbers of an answer of `sum` at the start of an array, and answers how many there are.
-pub(crate) fn tell_sum(values: &mut [u64], answer: SumAnswer) -> usize
+pub fn tell_sum(values: &mut [u64], answer: SumAnswer) -> usize
     requires { ⌜ 3 ≤ length (now values) ⌝ }
     ensures { λ r. ⌜ Wrote (sumNumbers answer) (now (values .entry)) r (now (values .exit)) ⌝ }
 {
@@ -67,7 +66,7 @@ pub(crate) fn tell_sum(values: &mut [u64], answer: SumAnswer) -> usize
 }
 
 // Puts the numbers of an answer of `merge` at the start of an array, and answers how many there are.
-pub(crate) fn tell_merge(values: &mut [u64], answer: MergeAnswer) -> usize
+pub fn tell_merge(values: &mut [u64], answer: MergeAnswer) -> usize
     requires { ⌜ 7 ≤ length (now values) ⌝ }
     ensures { λ r. ⌜ Wrote (mergeNumbers answer) (now (values .entry)) r (now (values .exit)) ⌝ }
 {

@@ -2,10 +2,10 @@
 use borrow.Author.Needs.{needs}
 use mathlib.Core.List.{[], _∷_}
 use mathlib.Core.Path.{refl}
-use Rattle.arbac.specs.Face.{mergeNumbers}
-use Rattle.arbac.specs.FaceLaws.{known-numbers, other-number}
-use Rattle.arbac.proofs.numbers.tell_merge.Statement.{statement}
-use Rattle.arbac.proofs.numbers.tell_merge.Tie as tie
+use Rattle.telling.specs.Numbers.{mergeNumbers}
+use Rattle.telling.specs.NumberLaws.{known-numbers, other-number}
+use Rattle.telling.proofs.tell_merge.Statement.{statement}
+use Rattle.telling.proofs.tell_merge.Tie as tie
 
 enum-known-answer : tie.Need-enum-known-answer
 enum-known-answer c = search needs
