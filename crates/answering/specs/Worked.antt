@@ -25,8 +25,8 @@ use Rattle.steps.specs.Tests.{mayAssign, mayRevoke, withTarget, withoutTarget, 
 use Rattle.steps.specs.Traces.{assignAt, revokeAt, possible, after, later, runOf}
 use Rattle.judging.specs.Verdict.{firstFrom as firstFailure, firstFailing, subjectOf, firstHolding, firstAssign, firstRevoke, firstGoal, failingPart, andThen, rulesSaid, allSaid, judgedRules, judgedTyping, typingVerdict, rulesVerdict, pinnedBelow, pinnedNames}
 use Rattle.running.specs.Verdict.{lastVerdict, ranVerdict, readVerdict, traceVerdict}
+use Rattle.summing.specs.Outcome.{answerIn, whenRead}
 use Rattle.merging.specs.Directory.{sameLists, sameLabel, samePerson, sameDirectory}
-use Rattle.merging.specs.Outcome.{answerIn, whenRead}
 use Rattle.merging.specs.Merge.{whenSame, whenAccepted, mergeJudged, mergeOutcome}
 use Rattle.merging.specs.Merge as merge
 use Rattle.answering.specs.Answers.{judgedAnswer, typingAnswer, traceAnswer, evidenceAnswer, answerAfter, answerOf}

@@ -1,4 +1,4 @@
--- What a C caller is told: document 01's number of an answer and its values, at the start of a lent array of numbers.
+-- What a C caller is told, at the start of a lent array of numbers: the numbers of an answer, or the place of the bad line.
 use Prim.Native.Nat.{ℕ, _-_}
 use mathlib.Core.Bool.{Bool, cond}
 use mathlib.Core.List.{List, [], _∷_}
@@ -6,24 +6,7 @@ use lib.Dec.{leb}
 use lib.ListN.{length}
 use Rattle.places.specs.Place.{badPlace}
 use Rattle.writing.specs.Written.{put}
-use Rattle.merging.specs.declared.SumAnswer.{SumAnswer}
-use Rattle.merging.specs.declared.MergeAnswer.{MergeAnswer}
-use Rattle.merging.specs.Outcome.{Outcome, bufferAfter}
-use Rattle.merging.specs.Sum as sum
-use Rattle.merging.specs.Merge as merge
-use Rattle.answering.specs.declared.Answer.{Answer}
-use Rattle.answering.specs.Answers.{numberOf, valuesOf}
-
--- ---- the numbers of an answer: document 01's number, and past it the values
-
-unfoldable pub checkNumbers : Answer → List ℕ
-checkNumbers answer = numberOf answer ∷ valuesOf answer
-
-unfoldable pub sumNumbers : SumAnswer → List ℕ
-sumNumbers answer = sum.numberOf answer ∷ sum.valuesOf answer
-
-unfoldable pub mergeNumbers : MergeAnswer → List ℕ
-mergeNumbers answer = merge.numberOf answer ∷ merge.valuesOf answer
+use Rattle.summing.specs.Outcome.{Outcome, bufferAfter}
 
 -- The place of the bad line: 0 for the policy or 1 for the evidence, where the line begins in it, and its length without the LF.
 unfoldable pub badNumbers : (policy evidence : List ℕ) → List ℕ

@@ -1,4 +1,4 @@
--- What a C caller may rely on: no answer is longer than its function says, 0 means that there was no room, and the numbers of the bad line are its place.
+-- What a C caller may rely on: 0 means that there was no room, the numbers of the bad line are its place, and no line is longer than 128 bytes.
 use Prim.Native.Nat.{ℕ, _-_, _≤_, _<_}
 use borrow.Author.Tests.{leb-false, lt-leb}
 use mathlib.Core.Bool.{Bool, true, false, cond}
@@ -12,33 +12,10 @@ use Rattle.tables.specs.declared.Name.{Name}
 use Rattle.places.specs.Place.{badPlace, badLine}
 use Rattle.judging.specs.declared.Part.{Part}
 use Rattle.writing.specs.Spelling.{decimal-length, spelled-length}
-use Rattle.merging.specs.declared.SumAnswer.{SumAnswer}
-use Rattle.merging.specs.declared.MergeAnswer.{MergeAnswer}
 use Rattle.answering.specs.declared.Answer.{Answer}
 use Rattle.answering.specs.Answers.{nameAt}
 use Rattle.printing.specs.Line.{field, partText, lineOf, checkLine}
-use Rattle.arbac.specs.Face.{checkNumbers, sumNumbers, mergeNumbers, roomFor, toldCount}
-
--- The longest answers have 6, 3 and 7 numbers.
-pub check-longest : (answer : Answer) → length (checkNumbers answer) ≤ 6
-unfolding checkNumbers
-check-longest (Answer.Safe roles assigns revokes goals pinned) = lit≤ tt
-check-longest (Answer.Attacked steps user goal) = lit≤ tt
-check-longest (Answer.Unproved part number) = lit≤ tt
-check-longest (Answer.Broken step) = lit≤ tt
-check-longest (Answer.Short steps) = lit≤ tt
-check-longest (Answer.Refused number line) = lit≤ tt
-
-pub sum-longest : (answer : SumAnswer) → length (sumNumbers answer) ≤ 3
-unfolding sumNumbers
-sum-longest (SumAnswer.Summed pinned written) = lit≤ tt
-sum-longest (SumAnswer.Refused which number line) = lit≤ tt
-
-pub merge-longest : (answer : MergeAnswer) → length (mergeNumbers answer) ≤ 7
-unfolding mergeNumbers
-merge-longest (MergeAnswer.Merged roles assigns revokes goals pinned written) = lit≤ tt
-merge-longest (MergeAnswer.Unproved which part number) = lit≤ tt
-merge-longest (MergeAnswer.Refused which number line) = lit≤ tt
+use Rattle.arbac.specs.Face.{roomFor, toldCount}
 
 -- 0 is answered exactly when the array has no room: every answer has a number at least.
 pub none-told : (longest number : ℕ) (values array : List ℕ) → toldCount longest (number ∷ values) array ≡ 0 ↔ length array < longest

@@ -1,8 +1,8 @@
--- How the numbers of an answer come about, and how they are told in a lent array, with room and without.
+-- How the place of the bad line and the user of an answer come about, and how numbers are told in a lent array, with room and without.
 use Prim.Native.Nat.{ℕ, _-_, _≤_, _<_}
 use borrow.Author.Tests.{lt-leb, le-leb}
 use mathlib.Core.Bool.{Bool, true, false, cond}
-use mathlib.Core.List.{List, [], _∷_, _++_}
+use mathlib.Core.List.{List, [], _∷_}
 use mathlib.Core.Path.{_≡_, refl, sym, ap, _∙_}
 use lib.ListN.{length}
 use mir.Val.{boolByte}
@@ -18,21 +18,13 @@ use Rattle.reading.specs.Kept.{read-bounded}
 use Rattle.steps.specs.Exact.{ran-run}
 use Rattle.writing.specs.Written.{put}
 use Rattle.writing.specs.Buffers.{Wrote, wrote-as}
-use Rattle.merging.specs.Outcome.{Outcome, answerIn, bufferAfter, Meets}
+use Rattle.summing.specs.Outcome.{Outcome, answerIn, bufferAfter, Meets}
 use Rattle.answering.specs.declared.Answer.{Answer}
 use Rattle.answering.specs.Answers.{answerOf}
 use Rattle.answering.specs.Exact.{attacked-exact}
+use Rattle.telling.specs.Numbers.{UserListed}
+use Rattle.telling.specs.NumberLaws.{other-number}
 use Rattle.arbac.specs.Face.{badNumbers, roomFor, toldCount, toldIn, bufferTold}
-
--- ---- the numbers of an answer
-
--- the numbers that are put are those of an answer that is known
-pub known-numbers : {A : Type 0} (numbersOf : A → List ℕ) {answer known : A} {numbers before after : List ℕ} {count : ℕ} → answer ≡ known → numbers ≡ numbersOf known → Wrote numbers before count after → Wrote (numbersOf answer) before count after
-known-numbers numbersOf same are w = wrote-as (are ∙ sym (ap numbersOf same)) w
-
--- one of them in other words
-pub other-number : (front back : List ℕ) {k j : ℕ} → k ≡ j → front ++ (k ∷ back) ≡ front ++ (j ∷ back)
-other-number front back same = ap (λ (n : ℕ). front ++ (n ∷ back)) same
 
 -- ---- the bad line
 
@@ -55,10 +47,6 @@ module _ (policy evidence : List ℕ) {place : BadPlace} (is : place ≡ badPlac
       go false = refl
 
 -- ---- the user of ATTACKED
-
--- Where an answer is ATTACKED, its user is one of 64 at most.
-pub record UserListed (answer : Answer) : Type 0 where
-  pub below : (steps user goal : ℕ) → answer ≡ Answer.Attacked steps user goal → user < 64
 
 -- who is present after a run was so before it
 present-first : {P : model.Policy} {σ τ : State} {user : ℕ} → Run P σ τ → Present τ user → Present σ user

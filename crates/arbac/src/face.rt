@@ -1,21 +1,22 @@
 // The functions for C callers: plain numbers and slices, and nothing is asked of their values.
 ghost use mathlib.Core.Path.{_≡_};
 ghost use lib.ListN.{length};
-ghost use Rattle.merging.specs.Outcome.{answerIn};
-ghost use Rattle.merging.specs.Sum.{sumOutcome};
+ghost use Rattle.summing.specs.Outcome.{answerIn};
+ghost use Rattle.summing.specs.Sum.{sumOutcome};
 ghost use Rattle.merging.specs.Merge.{mergeOutcome};
 ghost use Rattle.answering.specs.Answers.{answerOf};
 ghost use Rattle.printing.specs.Line.{checkLine, shownLength, shown};
-ghost use Rattle.arbac.specs.Face.{checkNumbers, sumNumbers, mergeNumbers, badNumbers, toldCount, toldIn, bufferTold};
-use crate::numbers::tell_check;
-use crate::numbers::tell_merge;
-use crate::numbers::tell_sum;
-use crate::numbers::write_numbers;
+ghost use Rattle.telling.specs.Numbers.{checkNumbers, sumNumbers, mergeNumbers};
+ghost use Rattle.arbac.specs.Face.{badNumbers, toldCount, toldIn, bufferTold};
 use answering::check;
 use merging::merge::merge;
-use merging::sums::sum;
 use places::bad_place;
 use printing::check_line;
+use summing::sum;
+use telling::tell_check;
+use telling::tell_merge;
+use telling::tell_sum;
+use telling::write_numbers;
 
 // Tells the answer to a policy text and a piece of evidence in an array of at least 6 numbers, and answers how many they are;
 // 0 where the array is shorter.

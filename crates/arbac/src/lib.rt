@@ -1,10 +1,9 @@
 // The public face: check, its line, the bad line, sum and merge; and the same for C callers.
 pub mod face;
-mod numbers;
 
 pub use answering::check;
 pub use merging::merge::merge;
-pub use merging::sums::sum;
 pub use places::bad_line;
 pub use places::bad_place;
 pub use printing::check_line;
+pub use summing::sum;

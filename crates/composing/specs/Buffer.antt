@@ -7,10 +7,10 @@ use lib.ListN.{length, take, drop}
 use Rattle.reading.specs.Policy.{Said}
 use Rattle.typings.specs.TypingText.{Typed}
 use Rattle.writing.specs.Buffers.{put-before, put-past}
-use Rattle.merging.specs.declared.SumAnswer.{SumAnswer}
+use Rattle.summing.specs.declared.SumAnswer.{SumAnswer}
+use Rattle.summing.specs.Outcome.{Outcome, leaves, writes, answerIn, bufferAfter}
+use Rattle.summing.specs.Sum.{sumOutcome}
 use Rattle.merging.specs.declared.MergeAnswer.{MergeAnswer}
-use Rattle.merging.specs.Outcome.{Outcome, leaves, writes, answerIn, bufferAfter}
-use Rattle.merging.specs.Sum.{sumOutcome}
 use Rattle.merging.specs.Merge.{mergeOutcome}
 use Rattle.composing.specs.SumRules.{sumText, summed, isSummed, SumTexts, sum-so}
 use Rattle.composing.specs.SumExact.{sum-success, sum-leaves}

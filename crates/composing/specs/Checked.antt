@@ -18,10 +18,10 @@ use Rattle.places.specs.Place.{isTyping}
 use Rattle.judging.specs.Verdict.{pinnedNames}
 use Rattle.spelling.specs.TypingText.{typingText}
 use Rattle.rereading.specs.Fits.{fits-read}
+use Rattle.summing.specs.Sums.{sumOf}
+use Rattle.summing.specs.SumLaws.{sumTyped}
+use Rattle.summing.specs.Outcome.{answerIn, bufferAfter}
 use Rattle.merging.specs.declared.MergeAnswer.{MergeAnswer}
-use Rattle.merging.specs.Sums.{sumOf}
-use Rattle.merging.specs.SumLaws.{sumTyped}
-use Rattle.merging.specs.Outcome.{answerIn, bufferAfter}
 use Rattle.merging.specs.Merge.{mergeOutcome}
 use Rattle.answering.specs.declared.Answer.{Answer}
 use Rattle.answering.specs.Answers.{answerOf}

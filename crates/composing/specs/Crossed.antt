@@ -11,9 +11,9 @@ use Rattle.reading.specs.Policy.{Said, policyOf, readPolicy}
 use Rattle.typings.specs.TypingText.{Typed, readTyping, tableOf}
 use Rattle.judging.specs.declared.Part.{Part}
 use Rattle.judging.specs.Verdict.{typingVerdict, rulesVerdict}
+use Rattle.summing.specs.Sums.{sumOf}
+use Rattle.summing.specs.Outcome.{leaves}
 use Rattle.merging.specs.declared.MergeAnswer.{MergeAnswer}
-use Rattle.merging.specs.Sums.{sumOf}
-use Rattle.merging.specs.Outcome.{leaves}
 use Rattle.merging.specs.DirectoryLaws.{SameDirectory}
 use Rattle.merging.specs.Merge.{countsFit, mergeWritten, mergeCounted, mergeJudged}
 use Rattle.composing.specs.MergeRules.{FirstUnproved, Passing}

@@ -18,8 +18,8 @@ use Rattle.judging.specs.Verdict.{typingVerdict, rulesVerdict}
 use Rattle.judging.specs.Exact.{SizedPolicy, FirstRule, FirstFailure, typing-accepted, rules-accepted, unproved-first, rules-first}
 use Rattle.verdicts.specs.PolicySized.{read-sized}
 use Rattle.verdicts.specs.Verdicts.{texts-laid}
+use Rattle.summing.specs.Outcome.{Outcome, leaves}
 use Rattle.merging.specs.declared.MergeAnswer.{MergeAnswer}
-use Rattle.merging.specs.Outcome.{Outcome, leaves}
 use Rattle.merging.specs.Merge.{whenAccepted}
 
 -- A typing is accepted on a policy, and its first failure there.

@@ -12,9 +12,9 @@ use Rattle.reading.specs.Texts.{Reading, read, refused}
 use Rattle.reading.specs.Policy.{Said, readPolicy}
 use Rattle.typings.specs.TypingText.{Typed, readTyping, tableOf}
 use Rattle.judging.specs.declared.Part.{Part}
+use Rattle.summing.specs.Sums.{sumOf}
+use Rattle.summing.specs.Outcome.{Outcome, leaves, answerIn, whenRead}
 use Rattle.merging.specs.declared.MergeAnswer.{MergeAnswer}
-use Rattle.merging.specs.Sums.{sumOf}
-use Rattle.merging.specs.Outcome.{Outcome, leaves, answerIn, whenRead}
 use Rattle.merging.specs.DirectoryLaws.{SameDirectory, same-exact}
 use Rattle.merging.specs.Merge.{whenSame, countsFit, mergeWritten, mergeJudged, mergeOutcome}
 use Rattle.composing.specs.SumRules.{sumText, TextFits}

@@ -13,9 +13,9 @@ use Rattle.typings.specs.TypingText.{Typed, readTyping, tableOf}
 use Rattle.judging.specs.declared.Part.{Part}
 use Rattle.judging.specs.Verdict.{pinnedNames}
 use Rattle.judging.specs.Exact.{FirstRule, FirstFailure}
+use Rattle.summing.specs.Sums.{sumOf}
+use Rattle.summing.specs.Outcome.{Outcome, leaves, writes}
 use Rattle.merging.specs.declared.MergeAnswer.{MergeAnswer}
-use Rattle.merging.specs.Sums.{sumOf}
-use Rattle.merging.specs.Outcome.{Outcome, leaves, writes}
 use Rattle.merging.specs.DirectoryLaws.{SameDirectory}
 use Rattle.composing.specs.SumRules.{sumText, TextFits}
 

@@ -8,7 +8,7 @@ use borrow.Author.Tests.{leb-true, le-leb}
 use lib.Dec.{leb}
 use lib.ListN.{length}
 use Rattle.reading.specs.Texts.{Reading, read, refused}
-use Rattle.merging.specs.Outcome.{Outcome, leaves, writes, answerIn, whenRead, fits}
+use Rattle.summing.specs.Outcome.{Outcome, leaves, writes, answerIn, whenRead, fits}
 use Rattle.composing.specs.SumRules.{TextFits}
 
 -- ---- a text is read, or it is refused

@@ -8,11 +8,11 @@ use Rattle.reading.specs.Policy.{Said, readPolicy}
 use Rattle.typings.specs.TypingText.{Typed, readTyping}
 use Rattle.rereading.specs.Named.{names-read}
 use Rattle.rereading.specs.Fits.{Fits, fits-read}
-use Rattle.merging.specs.declared.SumAnswer.{SumAnswer}
+use Rattle.summing.specs.declared.SumAnswer.{SumAnswer}
+use Rattle.summing.specs.SumLaws.{sumTyped}
+use Rattle.summing.specs.Outcome.{answerIn, bufferAfter}
+use Rattle.summing.specs.Sum.{sumOutcome}
 use Rattle.merging.specs.declared.MergeAnswer.{MergeAnswer}
-use Rattle.merging.specs.SumLaws.{sumTyped}
-use Rattle.merging.specs.Outcome.{answerIn, bufferAfter}
-use Rattle.merging.specs.Sum.{sumOutcome}
 use Rattle.merging.specs.Merge.{mergeOutcome}
 use Rattle.composing.specs.SumRules.{sumText, TextFits, isSummed, SumTexts, sum-so}
 use Rattle.composing.specs.SumExact.{sum-success}

@@ -7,10 +7,10 @@ use mathlib.Core.Path.{_≡_, refl, ap, _∙_}
 use Rattle.reading.specs.Texts.{Reading, read, refused}
 use Rattle.reading.specs.Policy.{Said, readPolicy}
 use Rattle.typings.specs.TypingText.{Typed, readTyping, tableOf}
-use Rattle.merging.specs.declared.SumAnswer.{SumAnswer}
-use Rattle.merging.specs.Sums.{sumOf}
-use Rattle.merging.specs.Outcome.{Outcome, leaves, answerIn, whenRead}
-use Rattle.merging.specs.Sum.{sumWritten, sumOutcome}
+use Rattle.summing.specs.declared.SumAnswer.{SumAnswer}
+use Rattle.summing.specs.Sums.{sumOf}
+use Rattle.summing.specs.Outcome.{Outcome, leaves, answerIn, whenRead}
+use Rattle.summing.specs.Sum.{sumWritten, sumOutcome}
 use Rattle.composing.specs.SumRules.{sumText, TextFits, summed, isSummed, SumTexts, sum-texts, Sums}
 use Rattle.composing.specs.Outcomes.{when-read, when-refused, decided, taken, left, fits-exact, rules-exact, when-success, when-other, Gives, answer-exact}
 

@@ -14,11 +14,11 @@ use Rattle.reading.specs.Policy.{Said, readPolicy}
 use Rattle.typings.specs.TypingText.{Typed, readTyping, tableOf}
 use Rattle.spelling.specs.TypingText.{typingText}
 use Rattle.rereading.specs.Fits.{fits-read}
-use Rattle.merging.specs.declared.SumAnswer.{SumAnswer}
-use Rattle.merging.specs.Sums.{paired, sumOf}
-use Rattle.merging.specs.SumLaws.{sumTyped}
-use Rattle.merging.specs.Outcome.{leaves, writes}
-use Rattle.merging.specs.Sum.{sumWritten, sumOutcome}
+use Rattle.summing.specs.declared.SumAnswer.{SumAnswer}
+use Rattle.summing.specs.Sums.{paired, sumOf}
+use Rattle.summing.specs.SumLaws.{sumTyped}
+use Rattle.summing.specs.Outcome.{leaves, writes}
+use Rattle.summing.specs.Sum.{sumWritten, sumOutcome}
 use Rattle.composing.specs.SumRules.{sumText, TextFits}
 use Rattle.composing.specs.Outcomes.{decided, taken, left, fits-exact}
 use Rattle.composing.specs.SumExact.{after-second}

@@ -9,9 +9,9 @@ use Rattle.reading.specs.Policy.{Said, readPolicy}
 use Rattle.typings.specs.TypingText.{Typed, readTyping, tableOf}
 use Rattle.judging.specs.Verdict.{pinnedNames}
 use Rattle.spelling.specs.TypingText.{typingText}
-use Rattle.merging.specs.declared.SumAnswer.{SumAnswer}
-use Rattle.merging.specs.Sums.{sumOf}
-use Rattle.merging.specs.Outcome.{Outcome, leaves, writes}
+use Rattle.summing.specs.declared.SumAnswer.{SumAnswer}
+use Rattle.summing.specs.Sums.{sumOf}
+use Rattle.summing.specs.Outcome.{Outcome, leaves, writes}
 
 -- The sum of two typings as a typing text over a policy's roles.
 unfoldable pub sumText : Said → Typed → Typed → List ℕ

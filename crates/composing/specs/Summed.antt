@@ -21,8 +21,8 @@ use Rattle.spelling.specs.TypingText.{typingText}
 use Rattle.rereading.specs.Named.{Named}
 use Rattle.rereading.specs.Fits.{Inside, Fits}
 use Rattle.rereading.specs.Back.{reads-back}
-use Rattle.merging.specs.Sums.{paired, sumOf}
-use Rattle.merging.specs.SumLaws.{Full, sum-meaning, sumTyped, Even, table-sum}
+use Rattle.summing.specs.Sums.{paired, sumOf}
+use Rattle.summing.specs.SumLaws.{Full, sum-meaning, sumTyped, Even, table-sum}
 
 -- ---- two columns of as many elements, element by element
 

@@ -14,8 +14,8 @@ use Rattle.reading.specs.Policy.{Said, policyOf, readPolicy}
 use Rattle.reading.specs.Kept.{read-bounded}
 use Rattle.typings.specs.TypingText.{Typed, readTyping, tableOf}
 use Rattle.rereading.specs.Fits.{Fits, fits-read}
-use Rattle.merging.specs.Sums.{sumOf}
-use Rattle.merging.specs.Outcome.{answerIn}
+use Rattle.summing.specs.Sums.{sumOf}
+use Rattle.summing.specs.Outcome.{answerIn}
 use Rattle.merging.specs.Merge.{mergeOutcome}
 use Rattle.composing.specs.MergeRules.{Passing, isMerged, MergeTexts, merge-so}
 use Rattle.composing.specs.MergeExact.{merge-success}

@@ -7,7 +7,7 @@ use files::load_argument;
 use judging::Part;
 use libc::STDOUT_FILENO;
 use merging::MergeAnswer;
-use merging::SumAnswer;
+use summing::SumAnswer;
 
 // What each byte of the lent buffer is before the call: a full stop, which no text has.
 const FILLING: u8 = b'.';

@@ -1,26 +1,16 @@
--- What is read into arrays: a policy text laid out, and a typing text over its roles.
-use Prim.Native.Nat.{ℕ, _*_, _≤_}
-use mathlib.Core.List.{List}
+-- A policy text that is read into arrays: its counts, and the verdicts on it.
+use Prim.Native.Nat.{_≤_}
 use mathlib.Core.Path.{_≡_, sym, ap, _∙_}
-use lib.ListN.{length}
 use native.Mathlib.Omega.{arith}
 use Rattle.model.specs.declared.Typing.{Typing as Table}
-use Rattle.tables.specs.declared.Name.{Name}
-use Rattle.tables.specs.Names.{rows}
 use Rattle.lines.specs.declared.Counts.{Counts}
 use Rattle.reading.specs.declared.directory.Directory.{Directory}
 use Rattle.reading.specs.declared.policy.Rules.{Rules}
-use Rattle.reading.specs.Texts.{refused}
 use Rattle.reading.specs.Policy.{Said, countsOf}
-use Rattle.reading.specs.Told.{Laid, counts-laid, roles-laid, people-laid, tables-laid}
-use Rattle.typings.specs.declared.TypingRead.{TypingRead}
-use Rattle.typings.specs.TypingText.{readTyping, typingRead}
-use Rattle.typings.specs.TypingTold.{TypingTold, typing-told, typing-untold}
+use Rattle.reading.specs.Told.{Laid, counts-laid, people-laid}
 use Rattle.judging.specs.declared.TypingVerdict.{TypingVerdict}
 use Rattle.judging.specs.Verdict.{policyIn, subjectIn, judgedTyping, judgedRules, typingVerdict, rulesVerdict}
 use Rattle.judging.specs.Layout.{typing-laid, rules-laid}
-
--- ---- a policy text
 
 -- No count is above its limit.
 pub record Limited (c : Counts) : Type 0 where
@@ -44,10 +34,6 @@ module _ {s : Said} {D : Directory} {R : Rules} (l : Laid s D R) where
   pub few : (D .counts .roles ≤ 128) × (D .counts .users ≤ 64)
   few = (omega (arith, l .roles, l .bounded .roles), omega (arith, l .users, l .bounded .users))
 
-  -- what a reader and a writer of typings ask of the table
-  pub table-room : (4 * R .counts .roles ≤ length (D .roles)) × (R .counts .roles ≤ 128)
-  table-room = let room = tables-laid l in (room .0, room .1)
-
   -- a verdict on the arrays is that on the text
   module _ (t : Table) {verdict : TypingVerdict} where
     pub verdict-told : judgedTyping (subjectIn (D .persons) R) t ≡ verdict → typingVerdict s t ≡ verdict
@@ -55,18 +41,3 @@ module _ {s : Said} {D : Directory} {R : Rules} (l : Laid s D R) where
 
     pub rules-told : judgedRules (R .counts .roles) (policyIn R) t ≡ verdict → rulesVerdict s t ≡ verdict
     rules-told is = sym (ap (λ (r : Rules). judgedRules (r .counts .roles) (policyIn r) t) (l .rules) ∙ rules-laid t (l .bounded)) ∙ is
-
--- ---- a typing text
-
-module _ {s : Said} {D : Directory} {R : Rules} (l : Laid s D R) (text : List ℕ) {T : TypingRead} (given : T ≡ typingRead (rows (R .counts .roles) (D .roles)) text) where
-  -- over the names of the text
-  over : T ≡ typingRead (s .roles) text
-  over = given ∙ ap (λ (names : List Name). typingRead names text) (roles-laid l)
-
-  -- no refusal: the text is read
-  pub typing-read : T .refusal ≡ 0 → TypingTold (s .roles) text T
-  typing-read none = typing-told (s .roles) text over none
-
-  -- a refusal, with its number and line
-  pub typing-refused : (T .refusal ≡ 0 → ⊥) → readTyping (s .roles) text ≡ refused (T .refusal) (T .line)
-  typing-refused some = typing-untold (s .roles) text over some

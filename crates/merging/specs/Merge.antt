@@ -10,10 +10,10 @@ use Rattle.typings.specs.TypingText.{Typed, readTyping, tableOf}
 use Rattle.judging.specs.declared.TypingVerdict.{TypingVerdict}
 use Rattle.judging.specs.Verdict.{typingVerdict, rulesVerdict, partNumber, pinnedNames}
 use Rattle.spelling.specs.TypingText.{typingText}
+use Rattle.summing.specs.Sums.{sumOf}
+use Rattle.summing.specs.Outcome.{Outcome, leaves, writes, whenRead, fits}
 use Rattle.merging.specs.declared.MergeAnswer.{MergeAnswer}
-use Rattle.merging.specs.Sums.{sumOf}
 use Rattle.merging.specs.Directory.{sameDirectory}
-use Rattle.merging.specs.Outcome.{Outcome, leaves, writes, whenRead, fits}
 
 -- 17: the roles in order, the users in order, clearances or holdings differ.
 unfoldable pub whenSame : Said → Said → Outcome MergeAnswer → Outcome MergeAnswer

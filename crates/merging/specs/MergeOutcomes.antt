@@ -18,12 +18,12 @@ use Rattle.judging.specs.declared.Part.{Part}
 use Rattle.judging.specs.declared.TypingVerdict.{TypingVerdict}
 use Rattle.judging.specs.Verdict.{policyIn, subjectIn, judgedTyping, judgedRules, pinnedNames}
 use Rattle.spelling.specs.TypingText.{typingText}
+use Rattle.summing.specs.Sums.{sumOf}
+use Rattle.summing.specs.Outcome.{leaves, fitting, Meets}
+use Rattle.summing.specs.Meeting.{meets-as, when-read, when-refused, text-some, met-named, none-written, all-written}
 use Rattle.merging.specs.declared.MergeAnswer.{MergeAnswer}
-use Rattle.merging.specs.Sums.{sumOf}
 use Rattle.merging.specs.Directory.{sameDirectory, sameTables}
 use Rattle.merging.specs.DirectoryLaws.{directory-laid}
-use Rattle.merging.specs.Outcome.{leaves, fitting, Meets}
-use Rattle.merging.specs.Meeting.{meets-as, when-read, when-refused, text-some, met-named, none-written, all-written}
 use Rattle.merging.specs.Layout.{verdict-told, rules-told}
 use Rattle.merging.specs.Merge.{whenSame, whenAccepted, countsFit, mergeWritten, mergeCounted, mergeJudged, mergeOutcome}
 

@@ -1,18 +1,8 @@
-// The sum of two typings, and the merge of two judged policies.
+// The merge of two judged policies.
 use judging::Part;
 
 pub mod directory;
-pub mod fitting;
 pub mod merge;
-pub mod sums;
-
-// The answer of sum.
-pub enum SumAnswer {
-    // the pinned names, and the length of the text
-    Summed(usize, usize),
-    // which text it speaks of, 1 policy, 2 first typing, 3 second typing, 0 none; the refusal's number and line
-    Refused(usize, u64, usize),
-}
 
 // The answer of merge.
 pub enum MergeAnswer {

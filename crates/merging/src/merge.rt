@@ -5,13 +5,11 @@ ghost use lib.ListN.{length};
 ghost use Rattle.tables.specs.Names.{rows};
 ghost use Rattle.reading.specs.Policy.{Said, countsOf};
 ghost use Rattle.reading.specs.Told.{Laid};
-ghost use Rattle.merging.specs.Outcome.{Meets};
+ghost use Rattle.summing.specs.Outcome.{Meets};
 ghost use Rattle.merging.specs.Merge.{whenSame, mergeJudged, mergeCounted, mergeOutcome};
 ghost use Rattle.merging.specs.Layout.{Limited};
 use crate::MergeAnswer;
 use crate::directory::same_directory;
-use crate::fitting::write_fitting;
-use crate::sums::sum_of;
 use judging::TypingVerdict;
 use judging::judge_rules;
 use judging::judge_typing;
@@ -22,6 +20,8 @@ use reading::directory::Directory;
 use reading::directory::read_directory;
 use reading::policy::Rules;
 use reading::policy::read_rules;
+use summing::fitting::write_fitting;
+use summing::sum_of;
 use typings::read_typing;
 
 // The sum of accepted typings over the role names, written with the joint counts: 19 where one of them is above its limit, 18

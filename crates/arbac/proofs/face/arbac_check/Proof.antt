@@ -1,6 +1,6 @@
 -- `arbac_check` leaves a short array alone, and tells the answer in any other.
 use mathlib.Core.Path.{ap}
-use Rattle.arbac.specs.Face.{checkNumbers}
+use Rattle.telling.specs.Numbers.{checkNumbers}
 use Rattle.arbac.specs.FaceLaws.{user-listed, no-room, with-room}
 use Rattle.writing.specs.Buffers.{wrote-as}
 use borrow.Author.Needs.{needs}

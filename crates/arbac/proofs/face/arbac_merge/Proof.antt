@@ -1,5 +1,5 @@
 -- `arbac_merge` leaves buffer and array alone where the array is short, and else tells what `merge` answers and leaves.
-use Rattle.arbac.specs.Face.{mergeNumbers}
+use Rattle.telling.specs.Numbers.{mergeNumbers}
 use Rattle.arbac.specs.FaceLaws.{no-room-outcome, with-room-outcome}
 use borrow.Author.Needs.{needs}
 use Rattle.arbac.proofs.face.arbac_merge.Statement.{statement}

@@ -1,5 +1,5 @@
 -- `arbac_sum` leaves buffer and array alone where the array is short, and else tells what `sum` answers and leaves.
-use Rattle.arbac.specs.Face.{sumNumbers}
+use Rattle.telling.specs.Numbers.{sumNumbers}
 use Rattle.arbac.specs.FaceLaws.{no-room-outcome, with-room-outcome}
 use borrow.Author.Needs.{needs}
 use Rattle.arbac.proofs.face.arbac_sum.Statement.{statement}

@@ -1,7 +1,8 @@
 -- `merge` reads policy one, typing one, policy two and typing two, each refusal at once, and hands what is read on.
 use Rattle.reading.specs.Told.{Told, directory-untold, directory-told, opened, rules-untold, told}
-use Rattle.merging.specs.Layout.{limited, few, table-room, typing-read, typing-refused}
-use Rattle.merging.specs.Meeting.{meets-as, meets-leaving}
+use Rattle.summing.specs.Layout.{table-room, typing-read, typing-refused}
+use Rattle.summing.specs.Meeting.{meets-as, meets-leaving}
+use Rattle.merging.specs.Layout.{limited, few}
 use Rattle.merging.specs.MergeOutcomes.{policy-one-refused, typing-one-refused, policy-two-refused, typing-two-refused, all-read}
 use borrow.Author.Needs.{needs}
 use Rattle.merging.proofs.merge.merge.Statement.{statement}

@@ -3,8 +3,8 @@ use lib.ListN.{length-map}
 use mathlib.Core.Path.{sym, ap, _∙_}
 use native.Mathlib.Omega.{arith}
 use borrow.Author.Tests.{not-true, not-false}
+use Rattle.summing.specs.Meeting.{meets-as, meets-leaving}
 use Rattle.merging.specs.Merge.{mergeCounted}
-use Rattle.merging.specs.Meeting.{meets-as, meets-leaving}
 use Rattle.merging.specs.MergeOutcomes.{directories-differ, fails-one, fails-two, fails-three, fails-four, all-accepted}
 use Rattle.reading.specs.Told.{counts-laid, roles-laid}
 use borrow.Author.Needs.{needs}

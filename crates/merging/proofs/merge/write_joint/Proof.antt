@@ -1,5 +1,5 @@
 -- `write_joint` adds the counts, compares each sum with its limit, and writes the text where it fits.
-use Rattle.merging.specs.Meeting.{meets-leaving}
+use Rattle.summing.specs.Meeting.{meets-leaving}
 use Rattle.merging.specs.MergeOutcomes.{assigns-above, revokes-above, goals-above, merge-unwritten, merge-written}
 use borrow.Author.Needs.{needs}
 use Rattle.merging.proofs.merge.write_joint.Statement.{statement}

@@ -1,0 +1,3 @@
+-- An answer told in numbers.
+pub mod Numbers
+pub mod NumberLaws
