@@ -1,6 +1,6 @@
 -- What is answered to a policy text and a piece of evidence, in the order of document 01: the policy is read, then the evidence, then it is judged.
 use Prim.Native.Nat.{ℕ, suc}
-use mathlib.Core.Bool.{Bool, cond}
+use mathlib.Core.Bool.{cond}
 use mathlib.Core.List.{List, [], _∷_}
 use lib.ListN.{getD}
 use Rattle.tables.specs.declared.Name.{Name}

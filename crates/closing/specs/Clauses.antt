@@ -1,8 +1,7 @@
 -- One round: it goes no further than the clauses, it keeps the pair, and it takes in what each clause asks of the pair as it stood.
 use Prim.Native.Nat.{ℕ, _≤_, _<_, min}
-use mathlib.Core.Bool.{true}
 use mathlib.Core.Logic.{_↔_, ⊎-elim}
-use mathlib.Core.Path.{_≡_, refl}
+use mathlib.Core.Path.{_≡_}
 use borrow.Author.Tests.{lt-ltb, le-ltb}
 use native.Mathlib.Decide.{decLt}
 use native.Mathlib.Omega.{arith}
@@ -14,7 +13,7 @@ use Rattle.model.specs.Typing.{Typing}
 use Rattle.model.specs.Meaning.{meaning}
 use Rattle.model.specs.Closure.{Closed}
 use Rattle.sheets.specs.Turned.{setsOf, turnedOf}
-use Rattle.sheets.specs.Members.{Brings, below-exact, sets-exact, union-sized, below-sized, sets-sized}
+use Rattle.sheets.specs.Members.{below-exact, sets-exact, union-sized, below-sized, sets-sized}
 use Rattle.closing.specs.declared.Pair.{Pair}
 use Rattle.closing.specs.Rounds.{linksOf, linksFor, roundOf}
 

@@ -1,6 +1,6 @@
 -- Rounds that go through new roles only: what the roles gone through before bring is there already.
 use Prim.Native.Nat.{ℕ}
-use mathlib.Core.Path.{_≡_, refl, sym, ap, ap₂, _∙_}
+use mathlib.Core.Path.{_≡_, sym, ap, _∙_}
 use Rattle.roles.specs.declared.RoleSet.{RoleSet}
 use Rattle.roles.specs.Sets.{emptySet, unionOf, apartOf}
 use Rattle.roles.specs.Members.{has-empty, union-comm, union-assoc, union-self, union-empty}

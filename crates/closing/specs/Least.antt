@@ -1,13 +1,10 @@
 -- The closure by rounds is the least pair that document 01 asks for.
-use Prim.Native.Nat.{ℕ, zero, suc, _+_, _≤_, _<_, min}
+use Prim.Native.Nat.{ℕ, zero, suc, _+_, _≤_, _<_}
 use mathlib.Core.Bool.{Bool, true, false}
 use mathlib.Core.Logic.{_⊎_, ⊎-elim, _↔_}
 use mathlib.Core.Path.{_≡_, refl, sym, subst}
-use native.Mathlib.Decide.{decLt}
 use native.Mathlib.Omega.{arith}
-use Rattle.roles.specs.declared.RoleSet.{RoleSet}
-use Rattle.roles.specs.Sets.{emptySet}
-use Rattle.roles.specs.Members.{_∈_, below, empty-none}
+use Rattle.roles.specs.Members.{_∈_, below}
 use Rattle.model.specs.declared.Typing.{Typing as Table}
 use Rattle.model.specs.Typing.{Held, Absent}
 use Rattle.model.specs.Meaning.{meaning}

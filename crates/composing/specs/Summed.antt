@@ -1,6 +1,6 @@
 -- The sum of two typings that are read over a policy's roles: it fits them, means the model's sum, and its text reads back as it.
 use Prim.Native.Nat.{ℕ, suc, _-_, _≤_}
-use mathlib.Core.Bool.{true, false, _||_}
+use mathlib.Core.Bool.{false, _||_}
 use mathlib.Core.List.{List, [], _∷_, List·Memᴰ as Listed, List·Memᴰ·head as here, List·Memᴰ·tail as later}
 use mathlib.Core.Logic.{⊎-elim}
 use mathlib.Core.Path.{_≡_, refl, sym, ap, subst, subst⁻¹, _∙_}

@@ -1,10 +1,10 @@
 -- Names and sets of names against a table of declared names.
-use Prim.Native.Nat.{ℕ, zero, suc, max, _≤_}
+use Prim.Native.Nat.{ℕ, max, _≤_}
 use mathlib.Core.Bool.{Bool, true, false, cond, not, _&&_}
 use mathlib.Core.List.{List, [], _∷_}
 use mathlib.Core.Path.{_≡_, refl, sym, ap, ap₂, _∙_}
 use borrow.Author.Tests.{ltb-true, ltb-false, lt-leb, le-leb}
-use lib.Dec.{ltb, leb, eqb}
+use lib.Dec.{ltb, leb}
 use lib.ListN.{length}
 use native.Mathlib.Omega.{arith}
 use Rattle.roles.specs.declared.RoleSet.{RoleSet}

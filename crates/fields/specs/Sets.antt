@@ -1,10 +1,10 @@
 -- A set field read name by name: the roles so far tell a repeat among declared names.
-use Prim.Native.Nat.{ℕ, zero, suc, _+_, _-_, _≤_, _<_}
-use mathlib.Core.Bool.{Bool, true, false, cond, not, _&&_, _||_, false≢true, true≢false, and-eq-true-iff, and-false, or-true, or-false}
+use Prim.Native.Nat.{ℕ, _+_, _-_, _≤_, _<_}
+use mathlib.Core.Bool.{Bool, true, false, cond, not, _&&_, _||_, false≢true, true≢false, and-eq-true-iff, and-false, or-false}
 use mathlib.Core.List.{List, [], _∷_, _++_, append-assoc}
 use mathlib.Core.Path.{_≡_, refl, sym, ap, ap₂, _∙_, subst}
-use borrow.Author.Tests.{eqb-true, eq-eqb, ne-eqb, ltb-true}
-use lib.Dec.{eqb, ltb}
+use borrow.Author.Tests.{eq-eqb, ne-eqb, ltb-true}
+use lib.Dec.{eqb}
 use lib.ListN.{length, take, drop}
 use native.Mathlib.Omega.{arith}
 use Rattle.roles.specs.declared.RoleSet.{RoleSet}
@@ -12,10 +12,9 @@ use Rattle.roles.specs.Sets.{hasRole, emptySet, withOf}
 use Rattle.roles.specs.Members.{has-empty, has-with}
 use Rattle.tables.specs.declared.Name.{Name}
 use Rattle.text.specs.Forms.{bytes, every, every-more, isName, isSet, namesOf}
-use Rattle.tables.specs.Names.{packed, sameName, placeOf, packed-one-to-one, place-one-to-one}
-use Rattle.text.specs.Pieces.{split, sameBytes, among, repeated, same-equal, equal-same, Sought, sought-none, sought-some, sought-start, part-rest}
+use Rattle.tables.specs.Names.{packed-one-to-one, place-one-to-one}
+use Rattle.text.specs.Pieces.{split, sameBytes, among, repeated, same-equal, equal-same, Sought, sought-start}
 use Rattle.text.specs.Repeats.{still-single, now-repeated, repeated-start}
-use Rattle.fields.specs.declared.SetRead.{SetRead}
 use Rattle.fields.specs.Fields.{placed, isDeclared, allDeclared, rolesFrom, rolesOf, faultOf, areSet, malformedSet, undeclaredSet, setRead}
 
 -- ---- a name stands twice exactly where its role is in the set already

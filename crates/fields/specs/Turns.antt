@@ -1,7 +1,7 @@
 -- Within a line of evidence, malformed, then names: 15, then 16.
-use Prim.Native.Nat.{ℕ, _+_}
+use Prim.Native.Nat.{ℕ}
 use mathlib.Core.Bool.{Bool, true, false, cond, _&&_}
-use mathlib.Core.Path.{_≡_, refl, ap}
+use mathlib.Core.Path.{_≡_, refl}
 use lib.Dec.{ltb, eqb}
 use Rattle.fields.specs.Fields.{faultOf}
 

@@ -1,6 +1,5 @@
 -- The closure is the least pair that document 01 asks for, it is truthful, and it grows with the typing.
 use Prim.Native.Nat.{ℕ}
-use mathlib.Core.Path.{_≡_}
 use Rattle.roles.specs.declared.RoleSet.{RoleSet}
 use Rattle.roles.specs.Members.{_∈_, Share, Within}
 use Rattle.model.specs.declared.Person.{Person}

@@ -1,5 +1,4 @@
 -- What the arrays of a typing mean: a label, a plus set and a minus set for each role.
-use Prim.Native.Nat.{ℕ}
 use lib.ListN.{getD}
 use Rattle.roles.specs.Sets.{emptySet}
 use Rattle.model.specs.declared.Typing.{Typing as Table}

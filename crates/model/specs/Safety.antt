@@ -1,17 +1,16 @@
 -- An accepted typing is safe: no run, however long, reaches a bad state (source 003, theorems 1 and 2).
 use Prim.Native.Nat.{ℕ}
 use mathlib.Core.Bool.{true, false, false≢true}
-use mathlib.Core.List.{List, List·Memᴰ as Listed}
 use mathlib.Core.Logic.{_⊎_, inl, inr, ⊎-elim}
-use mathlib.Core.Path.{_≡_, refl, sym, ap, subst, _∙_}
+use mathlib.Core.Path.{_≡_, sym, subst, _∙_}
 use Rattle.roles.specs.declared.RoleSet.{RoleSet}
-use Rattle.roles.specs.Sets.{emptySet, withOf, withoutOf}
+use Rattle.roles.specs.Sets.{withOf, withoutOf}
 use Rattle.roles.specs.Members.{_∈_, Share, Within, below, empty-none, with-cases, with-old, with-new, without-old, without-gone, without-other}
 use Rattle.model.specs.declared.Assign.{Assign}
 use Rattle.model.specs.declared.Revoke.{Revoke}
 use Rattle.model.specs.declared.Person.{Person}
-use Rattle.model.specs.Policy.{Label, L, H, _⊑_, Policy, State, person, Present, CanAssign, CanRevoke, holding, granted, revoked, Step, Run, Bad}
-use Rattle.model.specs.Typing.{Typing, Inconsistent, Held, Absent, Closing, closure, UpTo, Clash, Suits, HeldFor, AbsentFor, AssignPasses, RevokePasses, WellTyped, HoldingsPass, GoalPasses, RulesPass, AcceptedBy, Accepted}
+use Rattle.model.specs.Policy.{L, _⊑_, Policy, State, person, Present, CanAssign, CanRevoke, holding, granted, revoked, Step, Run, Bad}
+use Rattle.model.specs.Typing.{Typing, Inconsistent, Held, Absent, Closing, closure, UpTo, Suits, HeldFor, AbsentFor, AssignPasses, RevokePasses, WellTyped, HoldingsPass, GoalPasses, RulesPass, AcceptedBy, Accepted}
 use Rattle.model.specs.Closure.{Truthful, closure-truthful}
 use Rattle.model.specs.States.{everyone}
 

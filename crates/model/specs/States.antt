@@ -1,7 +1,7 @@
 -- What a step leaves and what it changes: the laws of a state after a user's roles are others.
-use Prim.Native.Nat.{ℕ, _<_}
-use mathlib.Core.Path.{_≡_, refl, sym, ap, subst, subst⁻¹, _∙_}
-use lib.ListN.{length, length-set}
+use Prim.Native.Nat.{ℕ}
+use mathlib.Core.Path.{_≡_, subst, subst⁻¹}
+use lib.ListN.{length-set}
 use lib.Seq.{getD-set-same, getD-set-other}
 use native.Mathlib.Decide.{ℕ-discrete}
 use Rattle.roles.specs.declared.RoleSet.{RoleSet}

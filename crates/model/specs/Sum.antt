@@ -1,18 +1,17 @@
 -- The sum of two typings: its laws, and that it is accepted for two policies together (source 003, lemmas 5 to 7, theorem 5).
 use Prim.Native.Nat.{ℕ}
-use mathlib.Core.Bool.{Bool, true, false, _||_, false≢true, or-true, or-comm, or-assoc, or-self}
-use mathlib.Core.List.{List, _++_, List·Memᴰ as Listed, List·Memᴰ·append-cases, Memᴰ·append-left, Memᴰ·append-right}
+use mathlib.Core.Bool.{true, false, _||_, false≢true, or-comm, or-assoc, or-self}
+use mathlib.Core.List.{List, List·Memᴰ as Listed, List·Memᴰ·append-cases, Memᴰ·append-left, Memᴰ·append-right}
 use mathlib.Core.Logic.{_⊎_, inl, inr, ⊎-elim}
 use mathlib.Core.Path.{_≡_, refl, sym, ap, ap₂, _∙_}
 use Rattle.roles.specs.declared.RoleSet.{RoleSet}
-use Rattle.roles.specs.Sets.{emptySet, unionOf}
-use Rattle.roles.specs.Members.{_∈_, Share, Within, union-cases, union-left, union-right, union-comm, union-assoc, union-self}
+use Rattle.roles.specs.Members.{union-cases, union-left, union-comm, union-assoc, union-self}
 use Rattle.model.specs.declared.Assign.{Assign}
 use Rattle.model.specs.declared.Revoke.{Revoke}
 use Rattle.model.specs.declared.Person.{Person}
-use Rattle.model.specs.Policy.{Label, L, H, _⊑_, Policy, joint, State, Run, Bad}
-use Rattle.model.specs.Typing.{Typing, Inconsistent, Closing, closure, UpTo, Clash, Suits, HeldFor, AbsentFor, AssignPasses, RevokePasses, WellTyped, HoldingsPass, GoalPasses, RulesPass, AcceptedBy, Accepted, sum}
-use Rattle.model.specs.Closure.{Below, Grows, Truthful, closure-grows, closure-truthful}
+use Rattle.model.specs.Policy.{Label, H, Policy, joint, State, Run, Bad}
+use Rattle.model.specs.Typing.{Typing, Inconsistent, Closing, closure, UpTo, Clash, Suits, HeldFor, AbsentFor, AssignPasses, RevokePasses, WellTyped, GoalPasses, RulesPass, AcceptedBy, Accepted, sum}
+use Rattle.model.specs.Closure.{Below, Grows, closure-grows, closure-truthful}
 use Rattle.model.specs.Safety.{accepted-by-safe}
 
 -- ---- the same in either order and grouping, and adding a typing to itself changes nothing

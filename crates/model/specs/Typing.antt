@@ -1,7 +1,7 @@
 -- Typings, the closure, what passes, what is accepted, and the sum, in the order of document 01, "Typings".
 use Prim.Native.Nat.{ℕ}
 use mathlib.Core.Bool.{_||_}
-use mathlib.Core.List.{List, List·Memᴰ as Listed}
+use mathlib.Core.List.{List·Memᴰ as Listed}
 use mathlib.Core.Logic.{_⊎_}
 use mathlib.Core.Path.{_≡_}
 use Rattle.roles.specs.declared.RoleSet.{RoleSet}

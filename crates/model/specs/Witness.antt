@@ -1,19 +1,17 @@
 -- The meaning is no empty shell: the desk policy has an accepted typing, and the loose desk has a run of two steps to a bad state.
 use Prim.Native.Nat.{ℕ, zero, suc}
-use mathlib.Core.Bool.{Bool, true, false, false≢true}
-use mathlib.Core.List.{List, [], _∷_, List·Memᴰ as Listed, List·Memᴰ·head as first, List·Memᴰ·tail as later, List·Memᴰ·not-nil, List·Memᴰ·cases-cons}
-use mathlib.Core.Logic.{_⊎_, inl, inr, ⊎-elim}
+use mathlib.Core.Bool.{true, false, false≢true}
+use mathlib.Core.List.{List, [], _∷_, List·Memᴰ as Listed, List·Memᴰ·head as first, List·Memᴰ·tail as later, List·Memᴰ·not-nil}
 use mathlib.Core.Path.{_≡_, refl, sym, subst, subst⁻¹, _∙_}
 use lib.Dec.{lit<}
 use native.Mathlib.Omega.{arith}
 use Rattle.roles.specs.declared.RoleSet.{RoleSet}
 use Rattle.roles.specs.Sets.{bit, hasRole, emptySet, singleOf, unionOf, meetOf, withOf, sameSet, sharesRole, includes}
-use Rattle.roles.specs.Members.{_∈_, Share, Within, empty-none, single-only, single-own, with-old, with-new, share-none, includes-within}
+use Rattle.roles.specs.Members.{_∈_, empty-none, single-only, single-own, with-old, with-new, share-none, includes-within}
 use Rattle.model.specs.declared.Assign.{Assign}
-use Rattle.model.specs.declared.Revoke.{Revoke}
 use Rattle.model.specs.declared.Person.{Person}
-use Rattle.model.specs.Policy.{Label, L, H, _⊑_, Policy, State, nobody, person, Present, Holds, HoldsAll, HoldsNone, CanAssign, holding, granted, Step, Run, Bad}
-use Rattle.model.specs.Typing.{Typing, Held, Absent, closure, UpTo, Clash, Suits, AssignPasses, WellTyped, HoldingsPass, GoalPasses, RulesPass, Accepted}
+use Rattle.model.specs.Policy.{Label, L, H, Policy, State, nobody, person, Present, CanAssign, holding, granted, Step, Run}
+use Rattle.model.specs.Typing.{Typing, Held, Absent, closure, UpTo, AssignPasses, WellTyped, GoalPasses, Accepted}
 use Rattle.model.specs.Safety.{Attack}
 
 abbrev adm : ℕ

@@ -1,23 +1,20 @@
 -- The refusal of a policy and a piece of evidence, and where the bad line stands (document 01, "Verdicts and refusal numbers").
-use Prim.Native.Nat.{ℕ, zero, suc, _+_, _-_, _≤_, _<_}
+use Prim.Native.Nat.{ℕ, zero, suc, _+_, _-_}
 use mathlib.Core.Bool.{Bool, true, false, cond, _&&_}
-use mathlib.Core.List.{List, [], _∷_}
-use mathlib.Core.Path.{_≡_, refl, sym, ap, ap₂, _∙_}
-use borrow.Author.Tests.{lt-ltb, le-ltb}
+use mathlib.Core.List.{List}
 use lib.Dec.{ltb, leb, eqb}
-use lib.ListN.{length, drop, getD}
-use native.Mathlib.Omega.{arith}
+use lib.ListN.{length, drop}
 use Rattle.bytes.specs.Bytes.{indexOf}
 use Rattle.tables.specs.declared.Name.{Name}
 use Rattle.text.specs.Forms.{bytes}
-use Rattle.text.specs.Pieces.{split, part, sameBytes, Sought}
+use Rattle.text.specs.Pieces.{part, sameBytes}
 use Rattle.reading.specs.Texts.{Reading, read, refused}
 use Rattle.reading.specs.Policy.{Said, readPolicy}
 use Rattle.places.specs.declared.Refusal.{Refusal}
 use Rattle.places.specs.declared.Span.{Span}
 use Rattle.places.specs.declared.BadPlace.{BadPlace}
-use Rattle.typings.specs.TypingText.{Typed, readTyping}
-use Rattle.traces.specs.TraceText.{Traced, readTrace}
+use Rattle.typings.specs.TypingText.{readTyping}
+use Rattle.traces.specs.TraceText.{readTrace}
 
 -- Evidence whose first line is a typing's header is a typing; any other is read as a trace.
 unfoldable pub isTyping : List ℕ → Bool

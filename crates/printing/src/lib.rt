@@ -6,7 +6,6 @@ ghost use lib.ListN.{length, take};
 ghost use Rattle.tables.specs.declared.Name.{Name};
 ghost use Rattle.text.specs.Forms.{bytes};
 ghost use Rattle.writing.specs.Written.{spelled, decimal};
-ghost use Rattle.writing.specs.Buffers.{Wrote};
 ghost use Rattle.printing.specs.Line.{field, partText, lineOf, checkLine, shownLength, shown};
 ghost use Rattle.printing.specs.LineSteps.{Goes, Line};
 ghost use Rattle.answering.specs.declared.Answer.{Answer};

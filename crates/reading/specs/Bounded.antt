@@ -1,6 +1,6 @@
 -- The limits of a policy's counts, which every good line keeps.
-use Prim.Native.Nat.{ℕ, _≤_, zero-le}
-use mathlib.Core.List.{List, [], _∷_, _++_}
+use Prim.Native.Nat.{_≤_, zero-le}
+use mathlib.Core.List.{[], _∷_}
 use mathlib.Core.Path.{_≡_, refl, _∙_}
 use lib.ListN.{length, length-append, length-set}
 use native.Mathlib.Omega.{arith}

@@ -1,9 +1,9 @@
 -- What holds between two lines while the directory is read: the arrays are what the lines so far say, and the rest decides.
 use Prim.Native.Nat.{ℕ, _+_, _*_, _≤_, _<_}
 use mathlib.Core.Bool.{Bool, true, false}
-use mathlib.Core.List.{List, [], _∷_, _++_}
+use mathlib.Core.List.{List}
 use mathlib.Core.Path.{_≡_, refl, sym, ap, ap₂, _∙_}
-use lib.ListN.{length, getD, set, length-append}
+use lib.ListN.{length, getD, set}
 use native.Mathlib.Omega.{arith}
 use Rattle.roles.specs.declared.RoleSet.{RoleSet}
 use Rattle.roles.specs.Sets.{emptySet, hasRole, withOf}
@@ -17,14 +17,14 @@ use Rattle.lines.specs.declared.Entry.{Entry}
 use Rattle.lines.specs.declared.PolicyLine.{PolicyLine}
 use Rattle.lines.specs.Lines.{policyLine}
 use Rattle.reading.specs.declared.directory.Directory.{Directory}
-use Rattle.reading.specs.Texts.{goes, ends, bad, Reading}
+use Rattle.reading.specs.Texts.{goes, bad}
 use Rattle.reading.specs.Walk.{on-start}
 use Rattle.reading.specs.Policy.{Said, nothing, countsOf, added, entered, answered, judgeLine, padded}
 use Rattle.reading.specs.Bounded.{bounded-nothing}
 use Rattle.reading.specs.Storing.{more-one, store-next, store-name, store-old, read-old, getD-any, table-room, table-names}
 use Rattle.reading.specs.Order.{OfDirectory, end-entry}
 use Rattle.reading.specs.Between.{Between, fits-here, judged-is, judged-entry, between-added}
-use Rattle.reading.specs.Directory.{Opening, closed, laidWith, laidOut, refusedDirectory, directoryOf, directoryRead}
+use Rattle.reading.specs.Directory.{closed, laidWith, laidOut, refusedDirectory, directoryOf, directoryRead}
 use Rattle.reading.specs.Leading.{Led, led-start, led-end, led-tail, led-bad, led-goes, led-stops}
 
 pub record Reached (text : List ℕ) (at number : ℕ) (d : Directory) (c : Counts) : Type 0 where

@@ -2,7 +2,7 @@
 use Prim.Native.Nat.{ℕ, suc}
 use mathlib.Core.Bool.{Bool, true, false, cond}
 use mathlib.Core.List.{List, [], _∷_}
-use mathlib.Core.Path.{_≡_, refl, sym, ap, subst, subst⁻¹, _∙_}
+use mathlib.Core.Path.{_≡_, refl, subst}
 use lib.Dec.{ltb}
 use lib.ListN.{length}
 use native.Mathlib.Omega.{arith}
@@ -12,7 +12,7 @@ use Rattle.text.specs.Pieces.{split}
 use Rattle.lines.specs.declared.Entry.{Entry}
 use Rattle.lines.specs.declared.PolicyLine.{PolicyLine}
 use Rattle.reading.specs.Texts.{Judged, goes, ends, bad, Reading, read, refused, closing, onward, readLines, readText}
-use Rattle.lines.specs.Lines.{policyLine, Fitting, good-fits}
+use Rattle.lines.specs.Lines.{policyLine, good-fits}
 use Rattle.reading.specs.Policy.{Said, nothing, countsOf, added, entered, answered, judgeLine, readPolicy}
 use Rattle.reading.specs.Bounded.{Bounded, bounded-nothing, bounded-added}
 

@@ -1,14 +1,14 @@
 -- Reading the directory from line to line: at each place the directory is what the lines from there on give.
 use Prim.Native.Nat.{ℕ, suc, _+_, _-_, _≤_, _<_}
 use mathlib.Core.Bool.{cond}
-use mathlib.Core.List.{List, [], _∷_}
-use mathlib.Core.Path.{_≡_, refl, sym, ap, ap₂, _∙_}
+use mathlib.Core.List.{List, _∷_}
+use mathlib.Core.Path.{_≡_, sym, ap, ap₂, _∙_}
 use borrow.Author.Tests.{lt-ltb, le-ltb}
 use lib.ListN.{length, drop, length-drop, length-take, drop-of-length-le}
 use native.Mathlib.Numerals.{add-one}
 use native.Mathlib.Omega.{arith}
 use Rattle.text.specs.Pieces.{split, split-piece, part, Sought, sought-some, sought-last}
-use Rattle.reading.specs.Texts.{Judged, goes, bad, Reading, read, refused}
+use Rattle.reading.specs.Texts.{Judged, goes, bad, read, refused}
 use Rattle.reading.specs.Policy.{Said, nothing, judgeLine}
 use Rattle.reading.specs.Directory.{Opening, closed, leading, directoryLines, readDirectory}
 

@@ -1,15 +1,14 @@
 -- What reading the directory comes to: the refusal is that of the policy, or the policy is read on where the rules begin.
 use Prim.Native.Nat.{ℕ, suc, _+_, _*_, _≤_, _<_}
-use mathlib.Core.Bool.{Bool, true, false, cond, true≢false}
+use mathlib.Core.Bool.{Bool, true, false, cond}
 use mathlib.Core.List.{List, [], _∷_, _++_}
-use mathlib.Core.Path.{_≡_, refl, sym, ap, ap₂, subst, _∙_}
-use borrow.Author.Tests.{ltb-true, ltb-false, eqb-true}
-use lib.Dec.{ltb, eqb}
+use mathlib.Core.Path.{_≡_, refl, sym, ap, _∙_}
+use borrow.Author.Tests.{ltb-true, ltb-false}
+use lib.Dec.{ltb}
 use lib.ListN.{length, drop, length-drop, length-append}
 use lib.Seq.{drop-drop, drop-append-add}
-use native.Mathlib.Nat.{zero-add}
 use native.Mathlib.Omega.{arith}
-use Rattle.text.specs.Pieces.{split, onto, split-piece}
+use Rattle.text.specs.Pieces.{split}
 use Rattle.lines.specs.declared.Counts.{Counts}
 use Rattle.lines.specs.declared.Entry.{Entry}
 use Rattle.lines.specs.declared.PolicyLine.{PolicyLine}
@@ -24,7 +23,7 @@ use Rattle.reading.specs.Between.{Between}
 use Rattle.reading.specs.PolicyExact.{end-exact}
 use Rattle.reading.specs.Header.{first-piece}
 use Rattle.reading.specs.Directory.{Opening, closed, leading, directoryLines, readDirectory}
-use Rattle.reading.specs.Leading.{openingAt, led-long, led-start}
+use Rattle.reading.specs.Leading.{openingAt}
 
 -- The text is open at the first line of the rules: the tables and counts hold what the directory says, and no rule is read.
 pub record Opened (text : List ℕ) (at number : ℕ) (c : Counts) (roles users : List ℕ) : Type 0 where

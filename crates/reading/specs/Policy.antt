@@ -1,19 +1,18 @@
 -- A whole policy text: what each line adds, and how a list is laid out in an array.
-use Prim.Native.Nat.{ℕ, zero, suc, _-_}
-use mathlib.Core.Bool.{Bool, true, false, cond}
+use Prim.Native.Nat.{ℕ, _-_}
+use mathlib.Core.Bool.{cond}
 use mathlib.Core.List.{List, [], _∷_, _++_}
 use lib.ListN.{length, replicate}
 use Rattle.roles.specs.declared.RoleSet.{RoleSet}
 use Rattle.roles.specs.Sets.{emptySet, hasRole}
 use Rattle.model.specs.declared.Assign.{Assign}
 use Rattle.model.specs.declared.Revoke.{Revoke}
-use Rattle.model.specs.declared.Person.{Person}
-use Rattle.model.specs.Policy.{Policy as Rules, State, nobody, person, granted}
+use Rattle.model.specs.Policy.{Policy as Rules, State, person, granted}
 use Rattle.tables.specs.declared.Name.{Name}
 use Rattle.lines.specs.declared.Counts.{Counts}
 use Rattle.lines.specs.declared.Entry.{Entry}
 use Rattle.lines.specs.declared.PolicyLine.{PolicyLine}
-use Rattle.reading.specs.Texts.{Judged, goes, ends, bad, Reading, read, refused, readText}
+use Rattle.reading.specs.Texts.{Judged, goes, ends, bad, Reading, readText}
 use Rattle.lines.specs.Lines.{policyLine}
 
 -- What the lines so far say: the kind of the last one, the names, the holdings, the rules and the goals, each in the order read.

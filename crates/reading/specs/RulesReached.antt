@@ -1,8 +1,8 @@
 -- What holds between two lines while the rules are read: the arrays are what the lines so far say, and the rest decides.
 use Prim.Native.Nat.{ℕ, _+_, _*_, _≤_, _<_}
-use mathlib.Core.List.{List, [], _∷_, _++_}
-use mathlib.Core.Path.{_≡_, refl, sym, ap, ap₂, subst, _∙_}
-use lib.ListN.{length, set, length-append}
+use mathlib.Core.List.{List}
+use mathlib.Core.Path.{_≡_, refl, sym, ap, ap₂, _∙_}
+use lib.ListN.{length, set}
 use native.Mathlib.Omega.{arith}
 use Rattle.roles.specs.declared.RoleSet.{RoleSet}
 use Rattle.roles.specs.Sets.{emptySet}
@@ -15,7 +15,6 @@ use Rattle.lines.specs.declared.Entry.{Entry}
 use Rattle.lines.specs.declared.PolicyLine.{PolicyLine}
 use Rattle.lines.specs.Lines.{policyLine}
 use Rattle.reading.specs.declared.policy.Rules.{Rules}
-use Rattle.reading.specs.Texts.{goes}
 use Rattle.reading.specs.Policy.{Said, nothing, countsOf, added, entered, padded, noAssign, noRevoke}
 use Rattle.reading.specs.Storing.{more-one, store-next}
 use Rattle.reading.specs.Between.{Between, fits-here, between-end, between-tail, between-bad, between-added, between-last, between-more}

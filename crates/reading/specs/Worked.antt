@@ -1,9 +1,7 @@
 -- Worked texts, computed from raw bytes: the desk policy, an empty text, a missing `end`, a last line without LF, a byte after `end`.
 use Prim.Native.Nat.{ℕ, _+_}
-use mathlib.Core.Bool.{Bool, true, false}
 use mathlib.Core.List.{List, [], _∷_, _++_, map}
 use mathlib.Core.Path.{_≡_, refl}
-use Rattle.roles.specs.declared.RoleSet.{RoleSet}
 use Rattle.roles.specs.Sets.{bit, emptySet, hasRole, singleOf, unionOf, withOf}
 use Rattle.model.specs.Policy.{nobody, person, holding, granted}
 use Rattle.text.specs.Forms.{bytes, every, between, nameByte, isName, namesOf, isSet, isLabel}

@@ -1,12 +1,12 @@
 -- Membership of a role in a set, and the law of each operation over membership.
-use Prim.Native.Nat.{ℕ, zero, suc, _+_, _-_, _*_, _/_, _%_, _^_, _≤_, _<_}
-use mathlib.Core.Bool.{Bool, true, false, cond, not, _&&_, _||_, false≢true, or-true, and-true, and-eq-true-iff}
+use Prim.Native.Nat.{ℕ, suc, _+_, _-_, _^_, _≤_, _<_}
+use mathlib.Core.Bool.{Bool, true, false, not, _&&_, _||_, false≢true, or-true, and-true, and-eq-true-iff}
 use mathlib.Core.Logic.{_⊎_, inl, inr}
 use mathlib.Core.Path.{_≡_, refl, sym, ap, ap₂, _∙_, subst, subst⁻¹}
-use borrow.Author.Tests.{ltb-true, ltb-false, lt-ltb, le-ltb, eqb-true, eqb-false, eq-eqb, ne-eqb}
-use lib.Bits.{bitAnd, bitOr, bitXor, and-self, or-self, or-comm, or-zero-r, and-le-l}
-use lib.Count.{trailingZeros, trailing-le}
-use lib.Dec.{ltb, eqb}
+use borrow.Author.Tests.{lt-ltb, le-ltb, eqb-true, eqb-false, eq-eqb, ne-eqb}
+use lib.Bits.{bitAnd, bitOr, bitXor, or-self, or-comm, or-zero-r, and-le-l}
+use lib.Count.{trailingZeros}
+use lib.Dec.{eqb}
 use lib.Pow.{pow-pos}
 use native.Mathlib.Decide.{decLt}
 use native.Mathlib.Nat.{lt-of-le-of-lt, add-sub-cancel-left}

@@ -1,6 +1,6 @@
 -- A set of roles in two 64-bit words, and what each operation on it gives.
 use Prim.Native.Nat.{ℕ, _+_, _-_, _/_, _%_, _^_}
-use mathlib.Core.Bool.{Bool, true, false, cond, not, _&&_}
+use mathlib.Core.Bool.{Bool, false, cond, not, _&&_}
 use lib.Bits.{bitAnd, bitOr, bitXor}
 use lib.Count.{ones, trailingZeros}
 use lib.Dec.{ltb, eqb}

@@ -1,16 +1,15 @@
 -- The bits of a word: what the bit operations do to each, words with the same bits, and how many are set.
-use Prim.Native.Nat.{ℕ, zero, suc, _+_, _-_, _*_, _/_, _%_, _^_, _≤_, _<_, min, max}
+use Prim.Native.Nat.{ℕ, zero, suc, _+_, _-_, _*_, _/_, _%_, _^_, _<_, min, max}
 use mathlib.Core.Bool.{Bool, true, false, cond, not, _&&_, _||_, false≢true}
 use mathlib.Core.Path.{_≡_, refl, sym, ap, ap₂, _∙_, fun-ext}
 use mathlib.Core.Logic.{_⊎_, inl, inr}
-use borrow.Author.Tests.{eqb-true, eq-eqb, ne-eqb}
 use lib.Arith.{digits-mod, lt-one, bin-ind}
 use lib.Bits.{bitAnd, bitOr, bitXor, differ, and-step, or-step, xor-step, and-shr, or-shr, xor-shr}
 use lib.Count.{ones, ones-step, trailingZeros, under}
 use native.Mathlib.Decide.{decLt}
 use lib.Dec.{eqb, lit<}
 use lib.Pow.{pow-add, pow-lt, pow-pos, shr-shr, shr-lt, shl-shr}
-use native.Mathlib.Nat.{mod-lt, div-add-mod', add-zero, zero-add, suc-add, add-assoc, mul-one, one-mul, pow-suc, pow-zero, mul-mod-left, mul-div-cancel, div-eq-of-lt, div-one, lt-irrefl}
+use native.Mathlib.Nat.{mod-lt, div-add-mod', zero-add, suc-add, add-assoc, one-mul, pow-suc, mul-mod-left, div-eq-of-lt, div-one}
 use native.Mathlib.Numerals.{one-add, add-one}
 use native.Mathlib.Omega.{arith}
 use Rattle.roles.specs.Sets.{bit}

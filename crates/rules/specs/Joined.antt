@@ -5,7 +5,6 @@ use mathlib.Core.Path.{_≡_, refl}
 use Rattle.roles.specs.declared.RoleSet.{RoleSet}
 use Rattle.roles.specs.Sets.{sharesRole, includes}
 use Rattle.roles.specs.Members.{Share, Within, Sized, includes-within, within-includes, shares-share, share-shares}
-use Rattle.model.specs.Policy.{_⊑_}
 use Rattle.rules.specs.Tests.{implies}
 
 -- where the first holds, the second does

@@ -14,7 +14,6 @@ use Rattle.reading.specs.declared.policy.Rules.{Rules}
 use Rattle.reading.specs.Texts.{Reading, read, refused}
 use Rattle.reading.specs.Policy.{Said, countsOf, padded, noAssign, noRevoke}
 use Rattle.reading.specs.Rules.{laidWith, laidOut}
-use Rattle.reading.specs.Bounded.{Bounded}
 use Rattle.reading.specs.Told.{Laid, users-laid, people-laid, tables-laid}
 use Rattle.traces.specs.TraceText.{Traced, readTrace}
 use Rattle.running.specs.Verdict.{readVerdict, traceVerdict}

@@ -1,12 +1,10 @@
 -- A step over the arrays of a program, of which the first elements are the state and the rules.
-use Prim.Native.Nat.{ℕ, _≤_, _<_, min}
+use Prim.Native.Nat.{ℕ, _<_}
 use borrow.Author.Tests.{lt-ltb}
 use mathlib.Core.List.{List}
-use mathlib.Core.Path.{_≡_, refl, sym, ap, _∙_}
+use mathlib.Core.Path.{_≡_, refl}
 use lib.ListN.{length, getD, take, set}
-use lib.Seq.{take-all, take-set-lt, getD-take}
-use native.Mathlib.Decide.{decLe}
-use native.Mathlib.Omega.{arith}
+use lib.Seq.{getD-take}
 use Rattle.model.specs.declared.Assign.{Assign}
 use Rattle.model.specs.declared.Revoke.{Revoke}
 use Rattle.model.specs.declared.Person.{Person}

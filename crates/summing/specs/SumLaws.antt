@@ -1,9 +1,9 @@
 -- The sum of typings in arrays is the model's sum, and the sum of what two typing texts say, laid out.
-use Prim.Native.Nat.{ℕ, zero, suc, _-_, _≤_}
+use Prim.Native.Nat.{ℕ, zero, suc, _-_}
 use mathlib.Core.Bool.{false, _||_}
 use mathlib.Core.List.{List, [], _∷_, _++_}
 use mathlib.Core.Path.{_≡_, refl, sym, ap, ap₂, _∙_}
-use lib.ListN.{length, getD, replicate, length-append, length-replicate}
+use lib.ListN.{length, getD, replicate}
 use native.Mathlib.Omega.{arith}
 use Rattle.roles.specs.Sets.{emptySet, unionOf}
 use Rattle.roles.specs.Members.{union-self}
@@ -64,16 +64,6 @@ pub record Full (t : Table) : Type 0 where
   pub labels : length (t .labels) ≡ 128
   pub plus : length (t .plus) ≡ 128
   pub minus : length (t .minus) ≡ 128
-
--- an array that a list is laid out in
-filled : {A : Type 0} (filling : A) (xs : List A) → length xs ≤ 128 → length (padded 128 filling xs) ≡ 128
-unfolding padded
-filled filling xs few = omega (arith, length-append xs (replicate (128 - length xs) filling), length-replicate (128 - length xs) filling)
-
--- A typing text of at most 128 rows, laid out, fills them.
-pub table-full : (t : Typed) → length (t .labels) ≤ 128 → length (t .plus) ≤ 128 → length (t .minus) ≤ 128 → Full (tableOf t)
-unfolding tableOf
-table-full t labels plus minus = record { labels = filled false (t .labels) labels; plus = filled emptySet (t .plus) plus; minus = filled emptySet (t .minus) minus }
 
 -- The sum of two typings in arrays means the sum of what they mean.
 pub sum-meaning : {t u : Table} → Full t → Full u → meaning (sumOf t u) ≡ sum (meaning t) (meaning u)

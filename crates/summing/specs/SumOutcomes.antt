@@ -1,7 +1,7 @@
 -- How the outcome of sum follows from what is read and written.
 use Prim.Native.Nat.{ℕ}
 use mathlib.Core.List.{List}
-use mathlib.Core.Path.{_≡_, sym, ap, ap₂, _∙_}
+use mathlib.Core.Path.{_≡_, sym, ap₂, _∙_}
 use lib.ListN.{length}
 use Rattle.model.specs.declared.Typing.{Typing as Table}
 use Rattle.tables.specs.declared.Name.{Name}

@@ -1,5 +1,5 @@
 -- A name packed into four 64-bit words, tables of packed names, and where a name stands in one.
-use Prim.Native.Nat.{ℕ, zero, suc, _+_, _-_, _*_, _/_, _%_, _^_, _≤_, _<_, zero-le}
+use Prim.Native.Nat.{ℕ, zero, suc, _+_, _-_, _*_, _/_, _^_, _≤_, _<_, zero-le}
 use mathlib.Core.Bool.{Bool, true, false, cond, _&&_, and-eq-true-iff}
 use mathlib.Core.List.{List, [], _∷_, _++_}
 use mathlib.Core.Path.{_≡_, refl, sym, ap, ap₂, _∙_}
@@ -9,7 +9,6 @@ use lib.ListN.{length, getD, set, take, drop, drop-of-length-le, length-drop, ta
 use lib.Pow.{pow-add}
 use lib.Seq.{drop-cons, drop-drop, getD-drop, take-all}
 use native.Mathlib.Nat.{add-zero, zero-add, add-mul-div-left, div-div-eq-div-mul, div-eq-of-lt, div-one, pow-suc, pow-le-pow-right, zero-div}
-use native.Mathlib.Numerals.{add-one}
 use native.Mathlib.Omega.{arith}
 use Rattle.tables.specs.declared.Name.{Name}
 use Rattle.text.specs.Eights.{eight-bytes}

@@ -1,6 +1,6 @@
 -- The form of a name, a set, a label and a rule number, in the order of document 01, "The texts".
 use Prim.Native.Nat.{ℕ, zero, suc, _+_, _-_, _*_, _^_, _≤_, _<_}
-use Prim.Native.Char.{Char, code}
+use Prim.Native.Char.{code}
 use Prim.Native.String.{String}
 use mathlib.Core.Bool.{Bool, true, false, cond, not, _&&_, _||_, and-assoc, and-false, and-eq-true-iff, false≢true}
 use mathlib.Core.List.{List, [], _∷_, _++_}

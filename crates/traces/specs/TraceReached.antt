@@ -1,8 +1,8 @@
 -- What holds between two lines while a trace is read: the steps so far, and the rest decides.
-use Prim.Native.Nat.{ℕ, zero, suc, _+_, _≤_, _<_, zero-le}
+use Prim.Native.Nat.{ℕ, _+_, _≤_, _<_, zero-le}
 use mathlib.Core.Bool.{Bool, true, false}
 use mathlib.Core.List.{List, [], _∷_, _++_}
-use mathlib.Core.Path.{_≡_, refl, sym, ap, ap₂, _∙_}
+use mathlib.Core.Path.{_≡_, refl, sym, ap, _∙_}
 use lib.ListN.{length, length-append}
 use native.Mathlib.Omega.{arith}
 use Rattle.tables.specs.declared.Name.{Name}
@@ -12,7 +12,6 @@ use Rattle.reading.specs.Texts.{Judged, text-long}
 use Rattle.reading.specs.Walk.{On, on-start, on-end, on-tail, on-bad, on-goes, on-last, on-more}
 use Rattle.traces.specs.declared.TraceEntry.{TraceEntry}
 use Rattle.traces.specs.declared.TraceLine.{TraceLine}
-use Rattle.traces.specs.declared.TraceRead.{TraceRead}
 use Rattle.traces.specs.TraceLines.{traceLine}
 use Rattle.traces.specs.TraceText.{Traced, untraced, added, answered, judgeLine, readTrace, refusedTrace, answerOf, traceRead}
 

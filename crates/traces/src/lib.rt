@@ -1,5 +1,4 @@
 // A trace text, read line by line over the policy's user names and rule counts.
-ghost use mathlib.Core.Bool.{Bool};
 ghost use mathlib.Core.List.{List};
 ghost use mathlib.Core.Path.{_≡_};
 ghost use Prim.Native.Nat.{ℕ, _*_, _-_, _≤_};

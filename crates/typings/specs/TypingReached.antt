@@ -1,6 +1,6 @@
 -- What holds between two lines while a typing is read: the arrays are what the rows so far say, and the rest decides.
-use Prim.Native.Nat.{ℕ, zero, suc, _+_, _-_, _≤_, _<_, zero-le}
-use mathlib.Core.Bool.{Bool, true, false, cond, _&&_, and-eq-true-iff}
+use Prim.Native.Nat.{ℕ, suc, _+_, _-_, _≤_, _<_}
+use mathlib.Core.Bool.{Bool, true, false, _&&_, and-eq-true-iff}
 use mathlib.Core.List.{List, [], _∷_, _++_}
 use mathlib.Core.Path.{_≡_, refl, sym, ap, ap₂, subst, _∙_}
 use borrow.Author.Tests.{leb-true, eqb-true}
@@ -14,13 +14,11 @@ use Rattle.model.specs.declared.Typing.{Typing as Table}
 use Rattle.tables.specs.declared.Name.{Name}
 use Rattle.text.specs.Forms.{bytes, isName, isLabel, isSet}
 use Rattle.text.specs.Pieces.{split, part, sameBytes, Sought}
-use Rattle.reading.specs.Texts.{Judged, goes, bad, ends, text-long}
+use Rattle.reading.specs.Texts.{Judged, text-long}
 use Rattle.reading.specs.Walk.{On, on-start, on-end, on-tail, on-bad, on-goes, on-last, on-more}
-use Rattle.reading.specs.Policy.{padded}
 use Rattle.reading.specs.Storing.{store-next}
 use Rattle.typings.specs.declared.TypingEntry.{TypingEntry}
 use Rattle.typings.specs.declared.TypingLine.{TypingLine}
-use Rattle.typings.specs.declared.TypingRead.{TypingRead}
 use Rattle.fields.specs.Turns.{turnOf}
 use Rattle.typings.specs.TypingLines.{Line, header, row, end, other, lineOf, wellFormed, named, entry, answerTo, judged, typingLine}
 use Rattle.typings.specs.TypingText.{Typed, untyped, added, answered, judgeLine, readTyping, tableOf, refusedTyping, answerOf, typingRead}

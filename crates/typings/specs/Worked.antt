@@ -1,6 +1,5 @@
 -- Worked typing texts over the desk's roles, computed from raw bytes: the desk's typing, an empty text, a missing `end`, a last line without LF, a byte after `end`.
 use Prim.Native.Nat.{ℕ, _+_}
-use mathlib.Core.Bool.{Bool, true, false}
 use mathlib.Core.List.{List, [], _∷_, _++_, map}
 use mathlib.Core.Path.{_≡_, refl}
 use Rattle.roles.specs.declared.RoleSet.{RoleSet}

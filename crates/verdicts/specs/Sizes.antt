@@ -1,6 +1,5 @@
 -- The words of every set that is read are words of 64 bits.
 use Prim.Native.Nat.{ℕ}
-use mathlib.Core.Bool.{true}
 use mathlib.Core.List.{List, [], _∷_, _++_, List·Memᴰ as Listed, List·Memᴰ·append-cases as append-cases, List·Memᴰ·eq-of-singleton as only}
 use mathlib.Core.Logic.{⊎-elim}
 use mathlib.Core.Path.{subst⁻¹}

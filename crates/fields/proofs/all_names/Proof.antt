@@ -3,9 +3,7 @@ use Prim.Native.Nat.{_-_, _≤_}
 use borrow.Author.Needs.{needs}
 use borrow.Author.Tests.{not-true, not-false}
 use lib.ListN.{length, drop}
-use mathlib.Core.Bool.{true}
-use mathlib.Core.Path.{_≡_, refl, sym, ap, _∙_}
-use native.Mathlib.Omega.{arith}
+use mathlib.Core.Path.{_≡_, refl, sym, _∙_}
 use Rattle.fields.specs.Sets.{first-fails, first-holds}
 use Rattle.text.specs.Forms.{every, isName}
 use Rattle.text.specs.Pieces.{split, sought-cut, sought-some, sought-last}

@@ -1,10 +1,6 @@
 -- `malformed_set` is the written answer.
-use Prim.Native.Nat.{ℕ}
 use borrow.Author.Needs.{needs}
-use mathlib.Core.Path.{ap}
 use Rattle.fields.specs.Fields.{malformedSet}
-use Rattle.fields.specs.declared.SetRead.{SetRead}
-use Rattle.roles.specs.declared.RoleSet.{RoleSet}
 use Rattle.fields.proofs.malformed_set.Statement.{statement}
 use Rattle.fields.proofs.malformed_set.Tie as tie
 

@@ -4,10 +4,10 @@ use Prim.Native.Nat.{ℕ}
 use borrow.Author.Tests.{not-true, not-false, lt-ltb, le-ltb}
 use lib.Dec.{ltb}
 use mathlib.Core.Bool.{true, false}
-use mathlib.Core.Path.{_≡_, sym, _∙_, ap}
+use mathlib.Core.Path.{sym, _∙_, ap}
 use mathlib.Core.Path.{sym, ap, _∙_}
-use Rattle.fields.specs.Fields.{nameRead, faultOf, placed, declared-test, new-test, worse}
-use Rattle.fields.specs.Fields.{nameRead, faultOf, placed, declared-test}
+use Rattle.fields.specs.Fields.{placed, declared-test}
+use Rattle.fields.specs.Fields.{placed, declared-test}
 use Rattle.fields.specs.Fields.{placed, declared-test, name-bad, name-good}
 use Rattle.tables.specs.Names.{placeOf, rows}
 use Rattle.tables.specs.Names.{rows}

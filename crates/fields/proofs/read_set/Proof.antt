@@ -1,20 +1,18 @@
 -- `read_set` goes from comma to comma: all names so far are well formed, declared and different, and their roles are the set.
 use Prim.Native.Nat.{_+_, _-_, _≤_}
 use borrow.Author.Needs.{needs}
-use lib.ListN.{length, drop}
-use mathlib.Core.Path.{_≡_, refl, sym, ap, _∙_, subst⁻¹}
-use mathlib.Core.Path.{_≡_, refl, sym, ap, _∙_}
+use lib.ListN.{length}
+use mathlib.Core.Path.{refl, sym, ap, _∙_, subst⁻¹}
+use mathlib.Core.Path.{refl, sym, ap, _∙_}
 use native.Mathlib.Omega.{arith}
 use Rattle.fields.specs.Fields.{fault-undeclared, fault-malformed, fault-none, at-place, few-rows}
 use Rattle.fields.specs.Fields.{fault-undeclared, fault-malformed, fault-none}
 use Rattle.fields.specs.Sets.{Walked, walked-start, walk-malformed, walk-undeclared, walk-repeated, walk-next, walk-last, empty-set}
-use Rattle.roles.specs.Sets.{emptySet, hasRole, withOf}
-use Rattle.roles.specs.Sets.{emptySet}
-use Rattle.roles.specs.declared.RoleSet.{RoleSet}
-use Rattle.tables.specs.Names.{rows, rows-length}
+use Rattle.roles.specs.Sets.{hasRole, withOf}
+use Rattle.tables.specs.Names.{rows}
 use Rattle.tables.specs.Names.{rows}
 use Rattle.text.specs.Pieces.{sought-cut, sought-some, sought-last}
-use Rattle.text.specs.Pieces.{split, sought-cut, sought-some, sought-last}
+use Rattle.text.specs.Pieces.{sought-cut, sought-some, sought-last}
 use Rattle.fields.proofs.read_set.Statement.{statement}
 use Rattle.fields.proofs.read_set.Tie as tie
 

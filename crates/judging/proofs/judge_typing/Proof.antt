@@ -6,7 +6,7 @@ use Rattle.model.specs.declared.Person.{Person}
 use Rattle.model.specs.declared.Typing.{Typing as Table}
 use Rattle.sheets.specs.declared.Sheet.{Sheet}
 use Rattle.sheets.specs.Turned.{turnedOf}
-use Rattle.sheets.specs.Words.{saidIn, turnedIn}
+use Rattle.sheets.specs.Words.{turnedIn}
 use Rattle.reading.specs.declared.policy.Rules.{Rules}
 use Rattle.judging.specs.declared.Part.{Part}
 use Rattle.judging.specs.declared.TypingVerdict.{TypingVerdict}

@@ -1,6 +1,6 @@
 -- `header_line` is judged by the stage and the edition.
 use borrow.Author.Needs.{needs}
-use Rattle.lines.specs.Lines.{inOrder, inTurn, wellFormed, withinLimit, declared, entry, judged, by-fault}
+use Rattle.lines.specs.Lines.{wellFormed, withinLimit, declared, entry, judged}
 use Rattle.lines.proofs.header_line.Statement.{statement}
 use Rattle.lines.proofs.header_line.Tie as tie
 

@@ -1,5 +1,5 @@
 -- `in_turn` goes by the three flags, one after the other.
-use borrow.Author.Tests.{not-true, not-false, lt-ltb, le-ltb}
+use borrow.Author.Tests.{not-true, not-false}
 use borrow.Author.Tests.{not-true, not-false}
 use Rattle.lines.specs.Lines.{inTurn}
 use Rattle.lines.proofs.in_turn.Statement.{statement}

@@ -1,15 +1,8 @@
 -- `revoke_line` is judged by the order and by the fault of both names together.
 use borrow.Author.Needs.{needs}
-use lib.Dec.{ltb}
-use mathlib.Core.Bool.{true, _&&_}
-use mathlib.Core.Path.{refl}
-use Rattle.fields.specs.Fields.{nameRead, faultOf, placed, declared-test, new-test, worse}
-use Rattle.fields.specs.Fields.{nameRead, isDeclared, worse}
-use Rattle.lines.specs.Lines.{inOrder, inTurn, wellFormed, withinLimit, declared, entry, judged, by-fault}
-use Rattle.lines.specs.Lines.{inOrder, wellFormed, withinLimit, declared, entry, judged, by-fault}
+use Rattle.fields.specs.Fields.{worse}
+use Rattle.fields.specs.Fields.{worse}
 use Rattle.lines.specs.Lines.{revoke-judged}
-use Rattle.text.specs.Forms.{isName}
-use Rattle.tables.specs.Names.{rows}
 use Rattle.lines.proofs.revoke_line.Statement.{statement}
 use Rattle.lines.proofs.revoke_line.Tie as tie
 

@@ -1,7 +1,7 @@
 -- `user_line` is judged by the order, the name, the clearance and the place in the table.
 use borrow.Author.Needs.{needs}
-use Rattle.fields.specs.Fields.{nameRead, faultOf, placed, declared-test, new-test, worse}
-use Rattle.lines.specs.Lines.{inOrder, inTurn, wellFormed, withinLimit, declared, entry, judged, by-fault}
+use Rattle.fields.specs.Fields.{placed, new-test}
+use Rattle.lines.specs.Lines.{wellFormed, withinLimit, declared, entry, judged}
 use Rattle.lines.proofs.user_line.Statement.{statement}
 use Rattle.lines.proofs.user_line.Tie as tie
 

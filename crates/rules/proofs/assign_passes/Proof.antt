@@ -4,7 +4,7 @@ use denote.Ref.{now}
 use mathlib.Core.Path.{sym, _∙_}
 use Rattle.sheets.specs.Words.{saidIn}
 use Rattle.closing.specs.Rounds.{linksOf, linksIn}
-use Rattle.rules.specs.Tests.{inconsistentRole, assignPasses}
+use Rattle.rules.specs.Tests.{assignPasses}
 use Rattle.rules.proofs.assign_passes.Statement.{statement}
 use Rattle.rules.proofs.assign_passes.Tie as tie
 

@@ -4,14 +4,14 @@ use borrow.Author.Needs.{needs}
 use lib.Dec.{lit≤}
 use lib.ListN.{length, drop, getD}
 use lib.ListN.{length, drop}
-use mathlib.Core.Path.{_≡_, sym, _∙_, refl}
+use mathlib.Core.Path.{_≡_, sym}
 use mathlib.Core.Path.{_≡_, sym}
 use native.Mathlib.Nat.{le-refl}
 use native.Mathlib.Nat.{one-le-pow, le-refl}
 use native.Mathlib.Nat.{one-le-pow}
 use native.Mathlib.Omega.{arith}
 use Rattle.tables.specs.Names.{value, value-end, word-bound, word-fits, word-next}
-use Rattle.tables.specs.Names.{value, value-next, value-end, word-next, word-fits}
+use Rattle.tables.specs.Names.{value, value-end, word-next, word-fits}
 use Rattle.tables.proofs.word.Statement.{statement}
 use Rattle.tables.proofs.word.Tie as tie
 

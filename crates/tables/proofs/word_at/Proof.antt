@@ -3,7 +3,7 @@ use Prim.Native.Nat.{ℕ, _+_, _-_, _*_, _/_, _^_, _≤_}
 use borrow.Author.Needs.{needs}
 use lib.ListN.{length, drop, drop-of-length-le, length-drop}
 use lib.Seq.{take-all}
-use mathlib.Core.Path.{_≡_, sym, _∙_, ap}
+use mathlib.Core.Path.{sym, _∙_, ap}
 use native.Mathlib.Omega.{arith}
 use Rattle.tables.specs.Names.{value, value-last}
 use Rattle.text.specs.Pieces.{part-rest}

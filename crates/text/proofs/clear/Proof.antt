@@ -1,7 +1,6 @@
 -- `clear` tests the eight bytes, where they are there.
 use borrow.Author.Needs.{needs}
 use mathlib.Core.Path.{sym, _∙_}
-use native.Mathlib.Omega.{arith}
 use Rattle.text.specs.Eights.{unlike, clear-short, clear-here, every-eight}
 use Rattle.text.proofs.clear.Statement.{statement}
 use Rattle.text.proofs.clear.Tie as tie

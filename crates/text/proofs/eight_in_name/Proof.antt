@@ -1,6 +1,5 @@
 -- `eight_in_name` tests the eight bytes.
 use borrow.Author.Needs.{needs}
-use native.Mathlib.Omega.{arith}
 use Rattle.text.specs.Eights.{every-eight}
 use Rattle.text.specs.Forms.{nameByte}
 use Rattle.text.proofs.eight_in_name.Statement.{statement}

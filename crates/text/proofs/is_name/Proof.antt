@@ -4,7 +4,6 @@ use borrow.Author.Needs.{needs}
 use borrow.Author.Tests.{not-true, not-false}
 use lib.ListN.{length, drop}
 use mathlib.Core.Path.{_≡_, refl, sym, _∙_}
-use native.Mathlib.Omega.{arith}
 use Rattle.text.specs.Eights.{eight-bad, eight-good, eight-last}
 use Rattle.text.specs.Forms.{every, nameByte, name-short, name-long, name-fits}
 use Rattle.text.proofs.is_name.Statement.{statement}

@@ -4,7 +4,7 @@ use borrow.Author.Needs.{needs}
 use lib.ListN.{drop, length}
 use lib.Seq.{take-length}
 use mathlib.Core.List.{List}
-use mathlib.Core.Path.{_≡_, sym, _∙_, ap}
+use mathlib.Core.Path.{sym, _∙_, ap}
 use native.Mathlib.Omega.{arith}
 use Rattle.bytes.specs.Bytes.{indexOf, slice}
 use Rattle.text.specs.Eights.{clear-passing}

@@ -1,6 +1,6 @@
 -- `code` goes by the answer.
 use borrow.Author.Needs.{needs}
-use mathlib.Core.Path.{_≡_, sym, ap, _∙_}
+use mathlib.Core.Path.{sym, ap}
 use Rattle.typings.specs.TypingText.{codeOf}
 use Rattle.typings.proofs.code.Statement.{statement}
 use Rattle.typings.proofs.code.Tie as tie

@@ -1,6 +1,5 @@
 -- `end_line` is judged by its word and its place.
 use borrow.Author.Needs.{needs}
-use native.Mathlib.Omega.{arith}
 use Rattle.typings.specs.TypingLines.{end-judged}
 use Rattle.typings.proofs.end_line.Statement.{statement}
 use Rattle.typings.proofs.end_line.Tie as tie

@@ -2,7 +2,7 @@
 use Prim.Native.Nat.{ℕ, _-_}
 use borrow.Author.Needs.{needs}
 use lib.ListN.{length}
-use mathlib.Core.Path.{_≡_, sym, ap, _∙_}
+use mathlib.Core.Path.{ap, _∙_}
 use native.Mathlib.Omega.{arith}
 use Rattle.typings.specs.TypingReached.{Reached, reached-start, reached-end, reached-tail, refused-long, row-fits, line-refused, line-header, line-row, line-last, line-more}
 use Rattle.typings.specs.TypingText.{codeOf, refusedTyping}

@@ -1,8 +1,6 @@
 -- `refused` is the refusal over the typing of no rows.
 use borrow.Author.Needs.{needs}
 use Rattle.typings.specs.TypingText.{refusedTyping}
-use Rattle.typings.specs.declared.TypingRead.{TypingRead}
-use Rattle.model.specs.declared.Typing.{Typing}
 use Rattle.typings.proofs.refused.Statement.{statement}
 use Rattle.typings.proofs.refused.Tie as tie
 

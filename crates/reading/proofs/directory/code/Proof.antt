@@ -1,6 +1,6 @@
 -- `code` goes by the answer.
 use borrow.Author.Needs.{needs}
-use mathlib.Core.Path.{_≡_, sym, ap, _∙_}
+use mathlib.Core.Path.{sym, ap}
 use Rattle.reading.specs.Policy.{codeOf}
 use Rattle.reading.proofs.directory.code.Statement.{statement}
 use Rattle.reading.proofs.directory.code.Tie as tie

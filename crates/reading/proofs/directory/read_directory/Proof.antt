@@ -4,7 +4,7 @@ use borrow.Author.Needs.{needs}
 use denote.Enum.Declared.{tagOf}
 use lib.ListN.{length}
 use mathlib.Core.List.{[], _∷_}
-use mathlib.Core.Logic.{_⊎_, inl, inr}
+use mathlib.Core.Logic.{inl, inr}
 use mathlib.Core.Path.{refl, sym, ap, _∙_}
 use native.Mathlib.Omega.{arith}
 use types.Run.{OneOf}
