@@ -5,11 +5,12 @@ use denote.Enum.Declared.{tagOf}
 use lib.ListN.{length}
 use mathlib.Core.List.{[], _∷_}
 use mathlib.Core.Logic.{inl, inr}
-use mathlib.Core.Path.{refl, sym, ap, _∙_}
+use mathlib.Core.Path.{_≡_, refl, sym, ap, _∙_}
 use native.Mathlib.Omega.{arith}
 use types.Run.{OneOf}
 use Rattle.lines.specs.declared.Entry.{Entry}
 use Rattle.lines.specs.declared.PolicyLine.{PolicyLine}
+use Rattle.lines.specs.Lines.{Fitting}
 use Rattle.lines.proofs.Entry.{the-type}
 use Rattle.text.specs.Pieces.{part-short}
 use Rattle.reading.specs.Policy.{codeOf}
@@ -51,6 +52,32 @@ inside c = omega (arith, c .before .before .before .before .before .before .befo
 -- and the measure falls with the next
 nearer : (c : tie.After-read-line Inv-loop μ-loop) → length (c .before .before .before .before .before .before .before .before .before .before .before .before .before .before .before .args .text .now) - (c .before .before .before .before .before .before .before .before .seek .result + 1) < length (c .before .before .before .before .before .before .before .before .before .before .before .before .before .before .before .args .text .now) - c .before .before .before .before .before .before .before .before .before .before .loop .at
 nearer c = omega (arith, c .before .before .before .before .before .before .before .before .seek .ensures, c .before .before .before .before .before .before .before .before .before .loop-test .taken)
+
+-- there is room for what a good line says
+room : (c : tie.After-read-line Inv-loop μ-loop) {e : Entry} → c .read-line .result ≡ PolicyLine.Good e → Fitting (c .before .before .before .before .before .before .before .before .before .before .loop .c) e
+room c good = fits-here (c .before .before .before .before .before .before .before .before .before .before .loop .inv .between) (c .before .before .before .before .before .before .before .before .seek .ensures) (inside c) (c .read-line .ensures) good
+
+-- what a line of each kind says, and the room for it
+role-said : (c : tie.After-known-told2 Inv-loop μ-loop) → c .before .before .before .before .before .before .read-line .result ≡ PolicyLine.Good (Entry.Role (c .before .entry .given .0 .0))
+role-said c = c .before .before .before .before .answer .given .1 ∙ ap PolicyLine.Good (c .before .entry .given .1)
+
+role-room : (c : tie.After-known-told2 Inv-loop μ-loop) → c .before .before .before .before .before .before .before .before .before .before .before .before .before .before .before .before .loop .c .roles < 128
+role-room c = room (c .before .before .before .before .before .before) (role-said c)
+
+user-said : (c : tie.After-known-told3 Inv-loop μ-loop) → c .before .before .before .before .before .before .read-line .result ≡ PolicyLine.Good (Entry.User (c .before .entry2 .given .0 .0) (c .before .entry2 .given .0 .1 .0))
+user-said c = c .before .before .before .before .answer .given .1 ∙ ap PolicyLine.Good (c .before .entry2 .given .1)
+
+user-room : (c : tie.After-known-told3 Inv-loop μ-loop) → c .before .before .before .before .before .before .before .before .before .before .before .before .before .before .before .before .loop .c .users < 64
+user-room c = room (c .before .before .before .before .before .before) (user-said c)
+
+has-said : (c : tie.After-known-told4 Inv-loop μ-loop) → c .before .before .before .before .before .before .read-line .result ≡ PolicyLine.Good (Entry.Has (c .before .entry3 .given .0 .0) (c .before .entry3 .given .0 .1 .0))
+has-said c = c .before .before .before .before .answer .given .1 ∙ ap PolicyLine.Good (c .before .entry3 .given .1)
+
+has-room : (c : tie.After-known-told4 Inv-loop μ-loop) → c .before .entry3 .given .0 .0 < c .before .before .before .before .before .before .before .before .before .before .before .before .before .before .before .before .loop .c .users
+has-room c = room (c .before .before .before .before .before .before) (has-said c)
+
+has-place : (c : tie.After-known-told4 Inv-loop μ-loop) → c .before .entry3 .given .0 .0 < 64
+has-place c = omega (arith, has-room c, user-limit (c .before .before .before .before .before .before .before .before .before .before .before .before .before .before .before .before .loop .inv))
 
 refused-requires : tie.Need-refused-requires Inv-loop μ-loop
 refused-requires c κs = search needs
@@ -125,14 +152,10 @@ enum-known-entry : tie.Need-enum-known-entry Inv-loop μ-loop
 enum-known-entry c = search needs
 
 store-requires : tie.Need-store-requires Inv-loop μ-loop
-store-requires c κs =
-    let line = c .before .before .before .before .before .before .before in
-    (fits-here ((line .before .before .before .before .before .before .before .before .before .before .loop .inv) .between) (line .before .before .before .before .before .before .before .before .seek .ensures) (inside line) (line .read-line .ensures) (c .before .before .before .before .before .answer .given .1 ∙ ap PolicyLine.Good (c .before .before .entry .given .1)))
+store-requires c κs = role-room (c .before)
 
 add-c : tie.Need-add-c Inv-loop μ-loop
-add-c c =
-    let line = c .before .before .before .before .before .before .before .before .before in
-    omega (arith, (fits-here ((line .before .before .before .before .before .before .before .before .before .before .loop .inv) .between) (line .before .before .before .before .before .before .before .before .seek .ensures) (inside line) (line .read-line .ensures) (c .before .before .before .before .before .before .before .answer .given .1 ∙ ap PolicyLine.Good (c .before .before .before .before .entry .given .1))))
+add-c c = omega (arith, role-room (c .before .before .before))
 
 loop-less-2 : tie.Need-loop-less-2 Inv-loop μ-loop
 loop-less-2 c = nearer (c .before .before .before .before .before .before .before .before .before)
@@ -140,33 +163,25 @@ loop-less-2 c = nearer (c .before .before .before .before .before .before .befor
 loop-again-2 : tie.Need-loop-again-2 Inv-loop μ-loop
 loop-again-2 c =
     let line = c .before .before .before .before .before .before .before .before .before in
-    role-added (line .before .before .before .before .before .before .before .before .before .before .loop .inv) (line .before .before .before .before .before .before .before .before .seek .ensures) (inside line) (line .read-line .ensures) (c .before .before .before .before .before .before .before .answer .given .1 ∙ ap PolicyLine.Good (c .before .before .before .before .entry .given .1)) (c .before .store .ensures)
+    role-added (line .before .before .before .before .before .before .before .before .before .before .loop .inv) (line .before .before .before .before .before .before .before .before .seek .ensures) (inside line) (line .read-line .ensures) (role-said (c .before .before .before)) (c .before .store .ensures)
 
 enum-known-entry-2 : tie.Need-enum-known-entry-2 Inv-loop μ-loop
 enum-known-entry-2 c = search needs
 
 store-requires-2 : tie.Need-store-requires-2 Inv-loop μ-loop
-store-requires-2 c κs =
-    let line = c .before .before .before .before .before .before .before in
-    omega (arith, (fits-here ((line .before .before .before .before .before .before .before .before .before .before .loop .inv) .between) (line .before .before .before .before .before .before .before .before .seek .ensures) (inside line) (line .read-line .ensures) (c .before .before .before .before .before .answer .given .1 ∙ ap PolicyLine.Good (c .before .before .entry2 .given .1))))
+store-requires-2 c κs = omega (arith, user-room (c .before))
 
 empty-requires : tie.Need-empty-requires Inv-loop μ-loop
 empty-requires c κs = search needs
 
 mul-t38 : tie.Need-mul-t38 Inv-loop μ-loop
-mul-t38 c =
-    let line = c .before .before .before .before .before .before .before .before .before in
-    omega (arith, (fits-here ((line .before .before .before .before .before .before .before .before .before .before .loop .inv) .between) (line .before .before .before .before .before .before .before .before .seek .ensures) (inside line) (line .read-line .ensures) (c .before .before .before .before .before .before .before .answer .given .1 ∙ ap PolicyLine.Good (c .before .before .before .before .entry2 .given .1))))
+mul-t38 c = omega (arith, user-room (c .before .before .before))
 
 element-set-from-d : tie.Need-element-set-from-d Inv-loop μ-loop
-element-set-from-d c =
-    let line = c .before .before .before .before .before .before .before .before .before in
-    (fits-here ((line .before .before .before .before .before .before .before .before .before .before .loop .inv) .between) (line .before .before .before .before .before .before .before .before .seek .ensures) (inside line) (line .read-line .ensures) (c .before .before .before .before .before .before .before .answer .given .1 ∙ ap PolicyLine.Good (c .before .before .before .before .entry2 .given .1)))
+element-set-from-d c = user-room (c .before .before .before)
 
 add-c-2 : tie.Need-add-c-2 Inv-loop μ-loop
-add-c-2 c =
-    let line = c .before .before .before .before .before .before .before .before .before .before in
-    omega (arith, (fits-here ((line .before .before .before .before .before .before .before .before .before .before .loop .inv) .between) (line .before .before .before .before .before .before .before .before .seek .ensures) (inside line) (line .read-line .ensures) (c .before .before .before .before .before .before .before .before .answer .given .1 ∙ ap PolicyLine.Good (c .before .before .before .before .before .entry2 .given .1))))
+add-c-2 c = omega (arith, user-room (c .before .before .before .before))
 
 loop-less-3 : tie.Need-loop-less-3 Inv-loop μ-loop
 loop-less-3 c = nearer (c .before .before .before .before .before .before .before .before .before .before)
@@ -174,20 +189,16 @@ loop-less-3 c = nearer (c .before .before .before .before .before .before .befor
 loop-again-3 : tie.Need-loop-again-3 Inv-loop μ-loop
 loop-again-3 c =
     let line = c .before .before .before .before .before .before .before .before .before .before in
-    user-added (line .before .before .before .before .before .before .before .before .before .before .loop .inv) (line .before .before .before .before .before .before .before .before .seek .ensures) (inside line) (line .read-line .ensures) (c .before .before .before .before .before .before .before .before .answer .given .1 ∙ ap PolicyLine.Good (c .before .before .before .before .before .entry2 .given .1)) (c .before .before .store2 .ensures) (c .before .empty .ensures)
+    user-added (line .before .before .before .before .before .before .before .before .before .before .loop .inv) (line .before .before .before .before .before .before .before .before .seek .ensures) (inside line) (line .read-line .ensures) (user-said (c .before .before .before .before)) (c .before .before .store2 .ensures) (c .before .empty .ensures)
 
 enum-known-entry-3 : tie.Need-enum-known-entry-3 Inv-loop μ-loop
 enum-known-entry-3 c = search needs
 
 mul-person : tie.Need-mul-person Inv-loop μ-loop
-mul-person c =
-    let line = c .before .before .before .before .before .before in
-    omega (arith, (fits-here ((line .before .before .before .before .before .before .before .before .before .before .loop .inv) .between) (line .before .before .before .before .before .before .before .before .seek .ensures) (inside line) (line .read-line .ensures) (c .before .before .before .before .answer .given .1 ∙ ap PolicyLine.Good (c .before .entry3 .given .1))), user-limit (line .before .before .before .before .before .before .before .before .before .before .loop .inv))
+mul-person c = omega (arith, has-place c)
 
 element-copy-out-person : tie.Need-element-copy-out-person Inv-loop μ-loop
-element-copy-out-person c =
-    let line = c .before .before .before .before .before .before in
-    omega (arith, (fits-here ((line .before .before .before .before .before .before .before .before .before .before .loop .inv) .between) (line .before .before .before .before .before .before .before .before .seek .ensures) (inside line) (line .read-line .ensures) (c .before .before .before .before .answer .given .1 ∙ ap PolicyLine.Good (c .before .entry3 .given .1))), user-limit (line .before .before .before .before .before .before .before .before .before .before .loop .inv))
+element-copy-out-person c = has-place c
 
 has-requires : tie.Need-has-requires Inv-loop μ-loop
 has-requires c κs = search needs
@@ -198,20 +209,16 @@ refused-requires-5 c κs = search needs
 returns-4 : tie.Need-returns-4 Inv-loop μ-loop
 returns-4 c =
     let line = c .before .before .before .before .before .before .before .before .before .before .before in
-    c .refused5 .ensures ∙ has-refused (line .before .before .before .before .before .before .before .before .before .before .loop .inv) (line .before .before .before .before .before .before .before .before .seek .ensures) (inside line) (line .read-line .ensures) (c .before .before .before .before .before .before .before .before .before .answer .given .1 ∙ ap PolicyLine.Good (c .before .before .before .before .before .before .entry3 .given .1)) _ refl (sym (c .before .before .has .ensures) ∙ c .before .if3 .taken)
+    c .refused5 .ensures ∙ has-refused (line .before .before .before .before .before .before .before .before .before .before .loop .inv) (line .before .before .before .before .before .before .before .before .seek .ensures) (inside line) (line .read-line .ensures) (has-said (c .before .before .before .before .before)) _ refl (sym (c .before .before .has .ensures) ∙ c .before .if3 .taken)
 
 with-requires : tie.Need-with-requires Inv-loop μ-loop
 with-requires c κs = search needs
 
 mul-t41 : tie.Need-mul-t41 Inv-loop μ-loop
-mul-t41 c =
-    let line = c .before .before .before .before .before .before .before .before .before .before .before in
-    omega (arith, (fits-here ((line .before .before .before .before .before .before .before .before .before .before .loop .inv) .between) (line .before .before .before .before .before .before .before .before .seek .ensures) (inside line) (line .read-line .ensures) (c .before .before .before .before .before .before .before .before .before .answer .given .1 ∙ ap PolicyLine.Good (c .before .before .before .before .before .before .entry3 .given .1))), user-limit (line .before .before .before .before .before .before .before .before .before .before .loop .inv))
+mul-t41 c = omega (arith, has-place (c .before .before .before .before .before))
 
 element-set-from-d-2 : tie.Need-element-set-from-d-2 Inv-loop μ-loop
-element-set-from-d-2 c =
-    let line = c .before .before .before .before .before .before .before .before .before .before .before in
-    omega (arith, (fits-here ((line .before .before .before .before .before .before .before .before .before .before .loop .inv) .between) (line .before .before .before .before .before .before .before .before .seek .ensures) (inside line) (line .read-line .ensures) (c .before .before .before .before .before .before .before .before .before .answer .given .1 ∙ ap PolicyLine.Good (c .before .before .before .before .before .before .entry3 .given .1))), user-limit (line .before .before .before .before .before .before .before .before .before .before .loop .inv))
+element-set-from-d-2 c = has-place (c .before .before .before .before .before)
 
 loop-less-4 : tie.Need-loop-less-4 Inv-loop μ-loop
 loop-less-4 c = nearer (c .before .before .before .before .before .before .before .before .before .before .before)
@@ -219,7 +226,7 @@ loop-less-4 c = nearer (c .before .before .before .before .before .before .befor
 loop-again-4 : tie.Need-loop-again-4 Inv-loop μ-loop
 loop-again-4 c =
     let line = c .before .before .before .before .before .before .before .before .before .before .before in
-    has-added (line .before .before .before .before .before .before .before .before .before .before .loop .inv) (line .before .before .before .before .before .before .before .before .seek .ensures) (inside line) (line .read-line .ensures) (c .before .before .before .before .before .before .before .before .before .answer .given .1 ∙ ap PolicyLine.Good (c .before .before .before .before .before .before .entry3 .given .1)) _ refl (sym (c .before .before .has .ensures) ∙ c .before .if3 .left) (c .with .ensures)
+    has-added (line .before .before .before .before .before .before .before .before .before .before .loop .inv) (line .before .before .before .before .before .before .before .before .seek .ensures) (inside line) (line .read-line .ensures) (has-said (c .before .before .before .before .before)) _ refl (sym (c .before .before .has .ensures) ∙ c .before .if3 .left) (c .with .ensures)
 
 returns-5 : tie.Need-returns-5 Inv-loop μ-loop
 returns-5 c =

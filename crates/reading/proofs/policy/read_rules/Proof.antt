@@ -5,11 +5,12 @@ use denote.Enum.Declared.{tagOf}
 use lib.ListN.{length}
 use mathlib.Core.List.{[], _∷_}
 use mathlib.Core.Logic.{inl, inr}
-use mathlib.Core.Path.{ap, _∙_}
+use mathlib.Core.Path.{_≡_, ap, _∙_}
 use native.Mathlib.Omega.{arith}
 use types.Run.{OneOf}
 use Rattle.lines.specs.declared.Entry.{Entry}
 use Rattle.lines.specs.declared.PolicyLine.{PolicyLine}
+use Rattle.lines.specs.Lines.{Fitting}
 use Rattle.lines.proofs.Entry.{the-type}
 use Rattle.text.specs.Pieces.{part-short}
 use Rattle.reading.specs.Policy.{codeOf}
@@ -50,6 +51,29 @@ inside c = omega (arith, c .before .before .before .seek .ensures, c .before .be
 -- and the measure falls with the next
 nearer : (c : tie.After-read-line Inv-loop μ-loop) → length (c .before .before .before .before .before .before .before .before .before .before .args .text .now) - (c .before .before .before .seek .result + 1) < length (c .before .before .before .before .before .before .before .before .before .before .args .text .now) - c .before .before .before .before .before .loop .at
 nearer c = omega (arith, c .before .before .before .seek .ensures, c .before .before .before .before .loop-test .taken)
+
+-- there is room for what a good line says
+room : (c : tie.After-read-line Inv-loop μ-loop) {e : Entry} → c .read-line .result ≡ PolicyLine.Good e → Fitting (c .before .before .before .before .before .loop .c) e
+room c good = fits-here (c .before .before .before .before .before .loop .inv .between) (c .before .before .before .seek .ensures) (inside c) (c .read-line .ensures) good
+
+-- what a line of each kind says, and the room for it
+assign-said : (c : tie.After-known-told2 Inv-loop μ-loop) → c .before .before .before .before .before .before .read-line .result ≡ PolicyLine.Good (Entry.Assign (c .before .entry .given .0 .0))
+assign-said c = c .before .before .before .before .answer .given .1 ∙ ap PolicyLine.Good (c .before .entry .given .1)
+
+assign-room : (c : tie.After-known-told2 Inv-loop μ-loop) → c .before .before .before .before .before .before .before .before .before .before .before .loop .c .assigns < 256
+assign-room c = room (c .before .before .before .before .before .before) (assign-said c)
+
+revoke-said : (c : tie.After-known-told3 Inv-loop μ-loop) → c .before .before .before .before .before .before .read-line .result ≡ PolicyLine.Good (Entry.Revoke (c .before .entry2 .given .0 .0))
+revoke-said c = c .before .before .before .before .answer .given .1 ∙ ap PolicyLine.Good (c .before .entry2 .given .1)
+
+revoke-room : (c : tie.After-known-told3 Inv-loop μ-loop) → c .before .before .before .before .before .before .before .before .before .before .before .loop .c .revokes < 256
+revoke-room c = room (c .before .before .before .before .before .before) (revoke-said c)
+
+goal-said : (c : tie.After-known-told4 Inv-loop μ-loop) → c .before .before .before .before .before .before .read-line .result ≡ PolicyLine.Good (Entry.Goal (c .before .entry3 .given .0 .0))
+goal-said c = c .before .before .before .before .answer .given .1 ∙ ap PolicyLine.Good (c .before .entry3 .given .1)
+
+goal-room : (c : tie.After-known-told4 Inv-loop μ-loop) → c .before .before .before .before .before .before .before .before .before .before .before .loop .c .goals < 32
+goal-room c = room (c .before .before .before .before .before .before) (goal-said c)
 
 refused-requires : tie.Need-refused-requires Inv-loop μ-loop
 refused-requires c κs = search needs
@@ -106,19 +130,13 @@ enum-known-entry : tie.Need-enum-known-entry Inv-loop μ-loop
 enum-known-entry c = search needs
 
 mul-rule : tie.Need-mul-rule Inv-loop μ-loop
-mul-rule c =
-    let line = c .before .before .before .before .before .before in
-    omega (arith, (fits-here ((line .before .before .before .before .before .loop .inv) .between) (line .before .before .before .seek .ensures) (inside line) (line .read-line .ensures) (c .before .before .before .before .answer .given .1 ∙ ap PolicyLine.Good (c .before .entry .given .1))))
+mul-rule c = omega (arith, assign-room c)
 
 element-set-from-rule : tie.Need-element-set-from-rule Inv-loop μ-loop
-element-set-from-rule c =
-    let line = c .before .before .before .before .before .before in
-    (fits-here ((line .before .before .before .before .before .loop .inv) .between) (line .before .before .before .seek .ensures) (inside line) (line .read-line .ensures) (c .before .before .before .before .answer .given .1 ∙ ap PolicyLine.Good (c .before .entry .given .1)))
+element-set-from-rule c = assign-room c
 
 add-c : tie.Need-add-c Inv-loop μ-loop
-add-c c =
-    let line = c .before .before .before .before .before .before .before in
-    omega (arith, (fits-here ((line .before .before .before .before .before .loop .inv) .between) (line .before .before .before .seek .ensures) (inside line) (line .read-line .ensures) (c .before .before .before .before .before .answer .given .1 ∙ ap PolicyLine.Good (c .before .before .entry .given .1))))
+add-c c = omega (arith, assign-room (c .before))
 
 loop-less : tie.Need-loop-less Inv-loop μ-loop
 loop-less c = nearer (c .before .before .before .before .before .before .before)
@@ -126,25 +144,19 @@ loop-less c = nearer (c .before .before .before .before .before .before .before)
 loop-again : tie.Need-loop-again Inv-loop μ-loop
 loop-again c =
     let line = c .before .before .before .before .before .before .before in
-    assign-added (line .before .before .before .before .before .loop .inv) (line .before .before .before .seek .ensures) (inside line) (line .read-line .ensures) (c .before .before .before .before .before .answer .given .1 ∙ ap PolicyLine.Good (c .before .before .entry .given .1))
+    assign-added (line .before .before .before .before .before .loop .inv) (line .before .before .before .seek .ensures) (inside line) (line .read-line .ensures) (assign-said (c .before))
 
 enum-known-entry-2 : tie.Need-enum-known-entry-2 Inv-loop μ-loop
 enum-known-entry-2 c = search needs
 
 mul-rule-2 : tie.Need-mul-rule-2 Inv-loop μ-loop
-mul-rule-2 c =
-    let line = c .before .before .before .before .before .before in
-    omega (arith, (fits-here ((line .before .before .before .before .before .loop .inv) .between) (line .before .before .before .seek .ensures) (inside line) (line .read-line .ensures) (c .before .before .before .before .answer .given .1 ∙ ap PolicyLine.Good (c .before .entry2 .given .1))))
+mul-rule-2 c = omega (arith, revoke-room c)
 
 element-set-from-rule-2 : tie.Need-element-set-from-rule-2 Inv-loop μ-loop
-element-set-from-rule-2 c =
-    let line = c .before .before .before .before .before .before in
-    (fits-here ((line .before .before .before .before .before .loop .inv) .between) (line .before .before .before .seek .ensures) (inside line) (line .read-line .ensures) (c .before .before .before .before .answer .given .1 ∙ ap PolicyLine.Good (c .before .entry2 .given .1)))
+element-set-from-rule-2 c = revoke-room c
 
 add-c-2 : tie.Need-add-c-2 Inv-loop μ-loop
-add-c-2 c =
-    let line = c .before .before .before .before .before .before .before in
-    omega (arith, (fits-here ((line .before .before .before .before .before .loop .inv) .between) (line .before .before .before .seek .ensures) (inside line) (line .read-line .ensures) (c .before .before .before .before .before .answer .given .1 ∙ ap PolicyLine.Good (c .before .before .entry2 .given .1))))
+add-c-2 c = omega (arith, revoke-room (c .before))
 
 loop-less-2 : tie.Need-loop-less-2 Inv-loop μ-loop
 loop-less-2 c = nearer (c .before .before .before .before .before .before .before)
@@ -152,25 +164,19 @@ loop-less-2 c = nearer (c .before .before .before .before .before .before .befor
 loop-again-2 : tie.Need-loop-again-2 Inv-loop μ-loop
 loop-again-2 c =
     let line = c .before .before .before .before .before .before .before in
-    revoke-added (line .before .before .before .before .before .loop .inv) (line .before .before .before .seek .ensures) (inside line) (line .read-line .ensures) (c .before .before .before .before .before .answer .given .1 ∙ ap PolicyLine.Good (c .before .before .entry2 .given .1))
+    revoke-added (line .before .before .before .before .before .loop .inv) (line .before .before .before .seek .ensures) (inside line) (line .read-line .ensures) (revoke-said (c .before))
 
 enum-known-entry-3 : tie.Need-enum-known-entry-3 Inv-loop μ-loop
 enum-known-entry-3 c = search needs
 
 mul-goal : tie.Need-mul-goal Inv-loop μ-loop
-mul-goal c =
-    let line = c .before .before .before .before .before .before in
-    omega (arith, (fits-here ((line .before .before .before .before .before .loop .inv) .between) (line .before .before .before .seek .ensures) (inside line) (line .read-line .ensures) (c .before .before .before .before .answer .given .1 ∙ ap PolicyLine.Good (c .before .entry3 .given .1))))
+mul-goal c = omega (arith, goal-room c)
 
 element-set-from-goal : tie.Need-element-set-from-goal Inv-loop μ-loop
-element-set-from-goal c =
-    let line = c .before .before .before .before .before .before in
-    (fits-here ((line .before .before .before .before .before .loop .inv) .between) (line .before .before .before .seek .ensures) (inside line) (line .read-line .ensures) (c .before .before .before .before .answer .given .1 ∙ ap PolicyLine.Good (c .before .entry3 .given .1)))
+element-set-from-goal c = goal-room c
 
 add-c-3 : tie.Need-add-c-3 Inv-loop μ-loop
-add-c-3 c =
-    let line = c .before .before .before .before .before .before .before in
-    omega (arith, (fits-here ((line .before .before .before .before .before .loop .inv) .between) (line .before .before .before .seek .ensures) (inside line) (line .read-line .ensures) (c .before .before .before .before .before .answer .given .1 ∙ ap PolicyLine.Good (c .before .before .entry3 .given .1))))
+add-c-3 c = omega (arith, goal-room (c .before))
 
 loop-less-3 : tie.Need-loop-less-3 Inv-loop μ-loop
 loop-less-3 c = nearer (c .before .before .before .before .before .before .before)
@@ -178,7 +184,7 @@ loop-less-3 c = nearer (c .before .before .before .before .before .before .befor
 loop-again-3 : tie.Need-loop-again-3 Inv-loop μ-loop
 loop-again-3 c =
     let line = c .before .before .before .before .before .before .before in
-    goal-added (line .before .before .before .before .before .loop .inv) (line .before .before .before .seek .ensures) (inside line) (line .read-line .ensures) (c .before .before .before .before .before .answer .given .1 ∙ ap PolicyLine.Good (c .before .before .entry3 .given .1))
+    goal-added (line .before .before .before .before .before .loop .inv) (line .before .before .before .seek .ensures) (inside line) (line .read-line .ensures) (goal-said (c .before))
 
 enum-told-2 : tie.Need-enum-told-2 Inv-loop μ-loop
 enum-told-2 c = search needs
