@@ -21,7 +21,7 @@ use Rattle.running.specs.declared.TraceVerdict.{TraceVerdict}
 use Rattle.running.specs.Verdict.{traceVerdict}
 use Rattle.running.specs.Exact.{Attacked, Broken, Short, attacked-attack}
 use Rattle.running.specs.Exact as running
-use Rattle.verdicts.specs.PolicySized.{read-sized, read-goals-sized}
+use Rattle.verdicts.specs.PolicySized.{read-sized, read-rules-sized, read-goals-sized}
 use Rattle.verdicts.specs.Verdicts as verdicts
 use Rattle.answering.specs.declared.Answer.{Answer}
 use Rattle.answering.specs.Answers.{judgedAnswer, typingAnswer, traceAnswer, evidenceAnswer, answerAfter, answerOf}
@@ -237,17 +237,17 @@ module _ (policy evidence : List ℕ) where
   -- ATTACKED with its values exactly when the evidence is read as a trace whose steps are a run that ends bad: user and goal are the first.
   pub attacked-exact : (n u g : ℕ) → answerOf policy evidence ≡ Answer.Attacked n u g ↔ TraceTexts policy evidence (λ s. Attacked s evidence n u g)
   unfolding tellsTrace traceTold traceAnswer
-  attacked-exact n u g = trace-exact refl refl (λ s reads. running.attacked-exact s (read-goals-sized policy reads) evidence n u g)
+  attacked-exact n u g = trace-exact refl refl (λ s reads. running.attacked-exact s (read-rules-sized policy reads) (read-goals-sized policy reads) evidence n u g)
 
   -- BROKEN with a number exactly when the evidence is read as a trace and the step with that number is the first that is none.
   pub broken-first : (n : ℕ) → answerOf policy evidence ≡ Answer.Broken n ↔ TraceTexts policy evidence (λ s. Broken s evidence n)
   unfolding tellsTrace traceTold traceAnswer
-  broken-first n = trace-exact refl refl (λ s reads. running.broken-first s evidence n)
+  broken-first n = trace-exact refl refl (λ s reads. running.broken-first s (read-rules-sized policy reads) (read-goals-sized policy reads) evidence n)
 
   -- SHORT with a number exactly when the evidence is read as a trace of that many steps, a run that does not end bad.
   pub short-exact : (n : ℕ) → answerOf policy evidence ≡ Answer.Short n ↔ TraceTexts policy evidence (λ s. Short s evidence n)
   unfolding tellsTrace traceTold traceAnswer
-  short-exact n = trace-exact refl refl (λ s reads. running.short-exact s (read-goals-sized policy reads) evidence n)
+  short-exact n = trace-exact refl refl (λ s reads. running.short-exact s (read-rules-sized policy reads) (read-goals-sized policy reads) evidence n)
 
 -- No policy text has one evidence that earns SAFE and another that earns ATTACKED.
 pub never-both : (policy typing trace : List ℕ) {n u g : ℕ} → isSafe (answerOf policy typing) ≡ true → answerOf policy trace ≡ Answer.Attacked n u g → ⊥
@@ -256,6 +256,4 @@ never-both policy typing trace {n} {u} {g} safe attacked =
     let no = attacked-exact policy trace n u g .0 attacked in
     let one : read (yes .said) ≡ read (no .said) = sym (yes .reads) ∙ no .reads in
     let same : yes .said ≡ no .said = cc in
-    let sized = read-goals-sized policy (no .reads) in
-    let attack = attacked-attack (no .said) sized trace n u g (running.attacked-exact (no .said) sized trace n u g .1 (no .holds)) in
-    model-never-both (yes .holds) (subst (λ (s : Said). Attack (policyOf s) (s .holdings)) (sym same) attack)
+    model-never-both (yes .holds) (subst (λ (s : Said). Attack (policyOf s) (s .holdings)) (sym same) (attacked-attack (no .holds)))

@@ -3,4 +3,5 @@ pub mod Answers
 pub mod Named
 pub mod Laws
 pub mod Exact
+pub mod Means
 pub mod Worked
