@@ -2,5 +2,9 @@
 pub mod Answers
 pub mod Named
 pub mod Laws
+pub mod CheckRules
+pub mod Kinds
+pub mod Outcomes
 pub mod Exact
+pub mod Refusals
 pub mod Worked
