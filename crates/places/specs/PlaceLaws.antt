@@ -111,7 +111,7 @@ none-inside : (text : List ℕ) → Inside noSpan text
 unfolding noSpan
 none-inside text = record { ordered = zero-le; within = zero-le }
 
-index-most : (mark : ℕ) (s : List ℕ) → indexOf mark s ≤ length s
+pub index-most : (mark : ℕ) (s : List ℕ) → indexOf mark s ≤ length s
 unfolding indexOf indexAfter
 index-most mark [] = zero-le
 index-most mark (byte ∷ s) = go (eqb byte mark) (index-most mark s)
