@@ -3,7 +3,7 @@ use Prim.Native.Nat.{ℕ, suc, _+_, _-_, _≤_, _<_}
 use mathlib.Core.Bool.{Bool, true, false, _&&_}
 use mathlib.Core.List.{List, [], _∷_}
 use mathlib.Core.Logic.{_⊎_, inl, inr}
-use mathlib.Core.Path.{_≡_, refl, sym, ap, subst⁻¹, _∙_}
+use mathlib.Core.Path.{_≡_, refl, sym, ap, subst, subst⁻¹, _∙_}
 use borrow.Author.Tests.{lt-leb, le-leb}
 use lib.Dec.{leb}
 use lib.ListN.{length, take, drop}
@@ -140,3 +140,7 @@ module _ (policy evidence : List ℕ) where
   pub bad-typing-line-exact : BadAt policy evidence (typingRefusalOf policy evidence .number) (typingRefusalOf policy evidence .line) (badTypingPlace policy evidence) (badTypingLine policy evidence)
   unfolding badTypingLine
   bad-typing-line-exact = bad-as true
+
+  -- Where a typing is wanted and the refusal is known, its bad line is the line of that number.
+  pub bad-typing-line-of : {k n : ℕ} → typingRefusalOf policy evidence ≡ record { number = k; line = n } → BadAt policy evidence k n (badTypingPlace policy evidence) (badTypingLine policy evidence)
+  bad-typing-line-of is = subst (λ (r : Refusal). BadAt policy evidence (r .number) (r .line) (badTypingPlace policy evidence) (badTypingLine policy evidence)) is bad-typing-line-exact

@@ -32,26 +32,28 @@ pub record PastLast (n : ℕ) (text : List ℕ) : Type 0 where
   pub last : n ≡ length (split LF text)
   pub empty : length (lineAt n text) ≡ 0
 
--- The numbers of refusals with a bad line in the policy, with one in the evidence, and without one: no refusal, and a text that
--- is too long.
+-- The numbers of refusals with a bad line in the policy.
 pub data OfPolicy : ℕ → Type 0 where
   malformed : OfPolicy 11
   above-limit : OfPolicy 12
   undeclared : OfPolicy 13
 
+-- The numbers of refusals with a bad line in the evidence.
 pub data OfEvidence : ℕ → Type 0 where
   malformed : OfEvidence 15
   misnamed : OfEvidence 16
 
+-- Those without a bad line: no refusal, and a text that is too long.
 pub data OfNeither : ℕ → Type 0 where
   none : OfNeither 0
   policy-long : OfNeither 10
   evidence-long : OfNeither 14
 
--- The place of a line, of the evidence or of the policy; and the empty part at the policy's start.
+-- The place of a line of the evidence or of the policy.
 unfoldable pub linePlace : (evidence : Bool) (n : ℕ) (text : List ℕ) → BadPlace
 linePlace evidence n text = record { evidence = evidence; from = startOf n text; to = startOf n text + length (lineAt n text) }
 
+-- The empty part at the policy's start.
 unfoldable pub noPlace : BadPlace
 noPlace = record { evidence = false; from = 0; to = 0 }
 
