@@ -16,7 +16,9 @@ use Rattle.typings.specs.Exact.{typing-refusal-exact}
 use Rattle.traces.specs.TraceText.{Traced, readTrace}
 use Rattle.traces.specs.Exact.{trace-refusal-exact}
 use Rattle.places.specs.declared.Refusal.{Refusal}
-use Rattle.places.specs.Place.{isTyping, told, refusedOver, refusalAfter, refusalOf}
+use Rattle.places.specs.Place.{isTyping, told, refusedOver, refusalAfter, refusalAs, refusalOf, badPlace, badLine}
+use Rattle.places.specs.BadLines.{BadAt}
+use Rattle.places.specs.BadLineExact.{bad-line-exact}
 use Rattle.steps.specs.declared.Found.{Found}
 use Rattle.steps.specs.Tests.{firstBad}
 use Rattle.steps.specs.Traces.{Ran, broken, ran, runOf}
@@ -109,9 +111,9 @@ module _ (policy evidence : List ℕ) where
   -- the refusal where the policy is read, by the kind of the evidence
   kind-refusal : {s : Said} {b : Bool} → readPolicy policy ≡ read s → isTyping evidence ≡ b
       → refusalOf policy evidence ≡ cond b (told (readTyping (s .roles) evidence)) (told (readTrace (length (s .assigns)) (length (s .revokes)) (s .users) evidence))
-  unfolding refusalOf refusalAfter refusedOver
+  unfolding refusalAs refusalAfter refusedOver
   kind-refusal {s} reads kind =
-      ap (λ (r : Reading Said). refusalAfter r evidence) reads
+      ap (λ (r : Reading Said). refusalAfter r (isTyping evidence) evidence) reads
       ∙ ap (λ (b : Bool). cond b (told (readTyping (s .roles) evidence)) (told (readTrace (length (s .assigns)) (length (s .revokes)) (s .users) evidence))) kind
 
   -- a trace is refused as its verdict says
@@ -129,8 +131,8 @@ module _ (policy evidence : List ℕ) where
       ranned (ran last) = found (eqb (firstBad last (s .goals) .user) 0) (firstBad last (s .goals))
 
   told-place : {a : Answer} → Outcome policy evidence a → refusalOf policy evidence ≡ refusalIn a
-  unfolding refusalOf refusalAfter refusalIn told judgedAnswer traceVerdict
-  told-place (no-policy reads) = ap (λ (r : Reading Said). refusalAfter r evidence) reads
+  unfolding refusalAs refusalAfter refusalIn told judgedAnswer traceVerdict
+  told-place (no-policy reads) = ap (λ (r : Reading Said). refusalAfter r (isTyping evidence) evidence) reads
   told-place (no-typing reads kind over) = kind-refusal reads kind ∙ ap told over
   told-place (typed {s = s} {t = t} reads over) = kind-refusal reads (typing-kind (s .roles) evidence over) ∙ ap told over ∙ go (typingVerdict s (tableOf t))
     where
@@ -142,3 +144,8 @@ module _ (policy evidence : List ℕ) where
   -- The bad line is looked for at the number and line of the answer, and nowhere for an answer that is no refusal.
   pub refused-place : refusalOf policy evidence ≡ refusalIn (answerOf policy evidence)
   refused-place = told-place (outcome policy evidence)
+
+  -- The bad line is that line of that text by which the answer refuses, and the empty part at the policy's start for a missing `end`
+  -- and for every other answer.
+  pub bad-line-told : BadAt policy evidence (refusalIn (answerOf policy evidence) .number) (refusalIn (answerOf policy evidence) .line) (badPlace policy evidence) (badLine policy evidence)
+  bad-line-told = subst (λ (r : Refusal). BadAt policy evidence (r .number) (r .line) (badPlace policy evidence) (badLine policy evidence)) refused-place (bad-line-exact policy evidence)

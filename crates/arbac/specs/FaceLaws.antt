@@ -11,8 +11,8 @@ use Rattle.model.specs.Policy.{State, Run, Present}
 use Rattle.model.specs.Policy as model
 use Rattle.model.specs.States.{present-back}
 use Rattle.places.specs.declared.BadPlace.{BadPlace}
-use Rattle.places.specs.Place.{badPlace}
-use Rattle.places.specs.PlaceLaws.{evidence-inside, policy-inside}
+use Rattle.places.specs.Place.{refusalOf, badPlace}
+use Rattle.places.specs.PlaceLaws.{place-ordered}
 use Rattle.reading.specs.Kept.{read-bounded}
 use Rattle.following.specs.Exact.{follows-run}
 use Rattle.writing.specs.Written.{put}
@@ -30,11 +30,7 @@ use Rattle.arbac.specs.Face.{badNumbers, roomFor, toldCount, toldIn, buf
 module _ (policy evidence : List ℕ) {place : BadPlace} (is : place ≡ badPlace policy evidence) where
   -- it does not end before it begins
   pub bad-ordered : place .from ≤ place .to
-  bad-ordered = go (place .evidence) refl
-    where
-      go : (b : Bool) → place .evidence ≡ b → place .from ≤ place .to
-      go true there = evidence-inside policy evidence is there .0
-      go false there = policy-inside policy evidence is there .0
+  bad-ordered = place-ordered policy evidence (refusalOf policy evidence) is
 
   -- its numbers, as they are computed
   pub bad-told : (boolByte (place .evidence) ∷ place .from ∷ (place .to - place .from) ∷ []) ≡ badNumbers policy evidence
