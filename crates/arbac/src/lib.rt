@@ -6,4 +6,5 @@ pub use merging::merge::merge;
 pub use places::bad_line;
 pub use places::bad_place;
 pub use printing::check_line;
+pub use printing::program_line;
 pub use summing::sum;
