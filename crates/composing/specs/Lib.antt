@@ -12,3 +12,4 @@ pub mod Together
 pub mod ReadBack
 pub mod Checked
 pub mod SumLaws
+pub mod Pinned

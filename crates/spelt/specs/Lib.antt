@@ -1,3 +1,9 @@
 -- What is read, by its bytes: names, typing texts and trace texts are read exactly when they are spelt so.
 pub mod Names
 pub mod Policies
+pub mod Lines
+pub mod Sets
+pub mod Typing
+pub mod TypingLines
+pub mod TypingExact
+pub mod Pinned

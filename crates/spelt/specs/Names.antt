@@ -48,23 +48,28 @@ same-packed s t form form′ = go (sameBytes s t) (sameName (packed s) (packed t
     go true false e f = sym f ∙ ap (λ (x : List ℕ). sameName (packed s) (packed x)) (sym (same-equal s t e)) ∙ same-self (packed s)
     go false true e f = sym (equal-same s) ∙ ap (sameBytes s) (packed-one-to-one s t form form′ (same-words (packed s) (packed t) f)) ∙ e
 
+-- neither of two tests holds
+pub neither : (a b : Bool) → (a || b) ≡ false → (a ≡ false) × (b ≡ false)
+neither true b e = absurd (false≢true (sym e))
+neither false b e = (refl, e)
+
 -- ---- where a name stands
 
 -- what stands at a place is among the byte strings, and passes every test that they all pass
-at-listed : {s : List ℕ} {names : List (List ℕ)} {place : ℕ} → At s names place → Listed s names
+pub at-listed : {s : List ℕ} {names : List (List ℕ)} {place : ℕ} → At s names place → Listed s names
 at-listed (here e) = first e
 at-listed (later at) = next (at-listed at)
 
-listed-at : {s : List ℕ} {names : List (List ℕ)} → Listed s names → (place : ℕ) × At s names place
+pub listed-at : {s : List ℕ} {names : List (List ℕ)} → Listed s names → (place : ℕ) × At s names place
 listed-at (first e) = (0, here e)
 listed-at (next m) = let below = listed-at m in (suc (below .0), later (below .1))
 
-listed-passes : (test : List ℕ → Bool) {s : List ℕ} {names : List (List ℕ)} → every test names ≡ true → Listed s names → test s ≡ true
+pub listed-passes : (test : List ℕ → Bool) {s : List ℕ} {names : List (List ℕ)} → every test names ≡ true → Listed s names → test s ≡ true
 unfolding every
 listed-passes test all (first {x} {xs} e) = ap test e ∙ and-eq-true-iff (test x) (every test xs) .0 all .0
 listed-passes test all (next {x} {xs} m) = listed-passes test (and-eq-true-iff (test x) (every test xs) .0 all .1) m
 
-listed-among : {s : List ℕ} {names : List (List ℕ)} → Listed s names → among s names ≡ true
+pub listed-among : {s : List ℕ} {names : List (List ℕ)} → Listed s names → among s names ≡ true
 unfolding among
 listed-among {s} (first {x} {xs} e) = ap (λ (b : Bool). b || among s xs) (ap (sameBytes s) (sym e) ∙ equal-same s)
 listed-among {s} (next {x} {xs} m) = go (sameBytes s x) (listed-among m)
@@ -73,7 +78,7 @@ listed-among {s} (next {x} {xs} m) = go (sameBytes s x) (listed-among m)
     go true below = refl
     go false below = below
 
-at-below : {s : List ℕ} {names : List (List ℕ)} {place : ℕ} → At s names place → place < length names
+pub at-below : {s : List ℕ} {names : List (List ℕ)} {place : ℕ} → At s names place → place < length names
 at-below (here e) = omega arith
 at-below (later at) = omega (arith, at-below at)
 
@@ -83,14 +88,10 @@ unfolding placeOf every repeated
 place-found {s} forms single (here {t} {rest} e) = rw (← e, same-self (packed s))
 place-found {s} forms single (later {t} {rest} {place} at) =
     let form = and-eq-true-iff (isName t) (every isName rest) .0 forms in
-    let alone = apart (among t rest) (repeated rest) single in
+    let alone = neither (among t rest) (repeated rest) single in
     ap (λ (b : Bool). cond b 0 (suc (placeOf (map packed rest) (packed s)))) (same-packed t s (form .0) (listed-passes isName (form .1) (at-listed at)) ∙ other (sameBytes t s) refl (alone .0))
     ∙ ap suc (place-found (form .1) (alone .1) at)
   where
-    apart : (a b : Bool) → (a || b) ≡ false → (a ≡ false) × (b ≡ false)
-    apart true b e = absurd (false≢true (sym e))
-    apart false b e = (refl, e)
-
     other : (b : Bool) → sameBytes t s ≡ b → among t rest ≡ false → b ≡ false
     other true same new = absurd (false≢true (sym new ∙ subst⁻¹ (λ (x : List ℕ). among x rest ≡ true) (same-equal t s same) (listed-among (at-listed at))))
     other false same new = refl
@@ -131,7 +132,7 @@ module _ {names : List (List ℕ)} (all : Names names) where
 -- ---- a set field
 
 -- a test of all byte strings holds exactly when it holds of each
-every-exact : (test : List ℕ → Bool) (fields : List (List ℕ)) → every test fields ≡ true ↔ ((s : List ℕ) → Listed s fields → test s ≡ true)
+pub every-exact : (test : List ℕ → Bool) (fields : List (List ℕ)) → every test fields ≡ true ↔ ((s : List ℕ) → Listed s fields → test s ≡ true)
 unfolding every
 every-exact test fields = (λ all s m. listed-passes test all m, back fields)
   where
