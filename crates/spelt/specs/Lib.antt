@@ -7,3 +7,7 @@ pub mod Typing
 pub mod TypingLines
 pub mod TypingExact
 pub mod Pinned
+pub mod Numbers
+pub mod Trace
+pub mod TraceLines
+pub mod TraceExact

@@ -1,9 +1,9 @@
 -- Texts in lines and lines in fields: a text is read exactly when it is lines with their LFs, each good after those above it, the last one `end`.
 use Prim.Native.Nat.{ℕ, _≤_}
-use mathlib.Core.Bool.{Bool, true, false, cond, not, _&&_, and-eq-true-iff, false≢true}
+use mathlib.Core.Bool.{Bool, true, false, cond, not, _&&_, and-eq-true-iff}
 use mathlib.Core.List.{List, [], _∷_, _++_}
 use mathlib.Core.Logic.{_↔_}
-use mathlib.Core.Path.{_≡_, refl, sym, ap, ap₂, subst, subst⁻¹, _∙_}
+use mathlib.Core.Path.{_≡_, refl, sym, ap, ap₂, subst, _∙_}
 use borrow.Author.Tests.{eqb-true, eqb-false, ne-eqb, not-true}
 use lib.Dec.{eqb}
 use lib.ListN.{length}
@@ -88,6 +88,20 @@ module _ {S : Type 0} (judge : S → List ℕ → Judged S) where
     pub are : text ≡ ended lines
     pub clear : every (free 10) lines ≡ true
     pub lead : Lead start lines said
+
+  -- A line stands first, and what is read after it leads on.
+  pub record Opened (header : List ℕ) (next : S) (lines : List (List ℕ)) (said : S) : Type 0 where
+    pub below : List (List ℕ)
+    pub are : lines ≡ header ∷ below
+    pub lead : Lead next below said
+
+  -- So it is where only that line is good.
+  pub lead-opened : {s t : S} {lines : List (List ℕ)} (header : List ℕ) (next : S) → ((line : List ℕ) → judge s line ≡ ends → ⊥) → ((line : List ℕ) (u : S) → judge s line ≡ goes u → (line ≡ header) × (u ≡ next)) → Lead s lines t
+      → Opened header next lines t
+  lead-opened header next going only (last {line = line} is) = absurd (going line is)
+  lead-opened header next going only (onward {t = u} {u = t} {line = line} {lines = lines} good below) =
+      let opens = only line u good in
+      record { below = lines; are = ap (λ (l : List ℕ). l ∷ lines) (opens .0); lead = subst (λ (v : S). Lead v lines t) (opens .1) below }
 
 module _ {S : Type 0} (judge : S → List ℕ → Judged S) (malformed long : ℕ) (start : S) (text : List ℕ) where
   -- the lines above a line lead to it

@@ -1,11 +1,10 @@
 -- Names by their bytes: a field is declared exactly when its bytes stand among the names, and a set field has the roles at the places of its names.
-use Prim.Native.Nat.{ℕ, zero, suc, _≤_, _<_}
+use Prim.Native.Nat.{ℕ, suc, _≤_, _<_}
 use mathlib.Core.Bool.{Bool, true, false, cond, _&&_, _||_, and-eq-true-iff, false≢true}
 use mathlib.Core.List.{List, [], _∷_, map, List·Memᴰ as Listed, List·Memᴰ·head as first, List·Memᴰ·tail as next}
 use mathlib.Core.Logic.{_↔_, _⊎_, inl, inr}
 use mathlib.Core.Path.{_≡_, refl, sym, ap, ap₂, subst, subst⁻¹, _∙_}
 use borrow.Author.Tests.{eq-eqb, ltb-true, lt-ltb}
-use lib.Dec.{ltb}
 use lib.ListN.{length, length-map}
 use native.Mathlib.Omega.{arith}
 use Rattle.roles.specs.declared.RoleSet.{RoleSet}
@@ -27,6 +26,12 @@ pub record Names (names : List (List ℕ)) : Type 0 where
 pub data At (s : List ℕ) : List (List ℕ) → ℕ → Type 0 where
   here : {t : List ℕ} {rest : List (List ℕ)} → s ≡ t → At s (t ∷ rest) 0
   later : {t : List ℕ} {rest : List (List ℕ)} {place : ℕ} → At s rest place → At s (t ∷ rest) (suc place)
+
+-- A role whose name is among those written.
+pub record RoleOf (names written : List (List ℕ)) (role : ℕ) : Type 0 where
+  pub name : List ℕ
+  pub stands : At name names role
+  pub is-written : Listed name written
 
 -- ---- the words of names tell their bytes
 
@@ -121,11 +126,17 @@ module _ {names : List (List ℕ)} (all : Names names) where
     λ at. (place-found (all .forms) (all .single) at, at-below at),
   )
 
+  -- A name that is declared stands where it is found.
+  pub declared-at : {field : List ℕ} → isName field ≡ true → isDeclared (map packed names) field ≡ true → At field names (placed (map packed names) field)
+  unfolding isDeclared
+  declared-at {field} form known =
+      placed-exact form (placed (map packed names) field) .0 (refl, rw length-map at (ltb-true (placed (map packed names) field) (length (map packed names)) known))
+
   -- It is declared exactly when its bytes are those of a name.
   pub declared-exact : {field : List ℕ} → isName field ≡ true → isDeclared (map packed names) field ≡ true ↔ Listed field names
   unfolding isDeclared
   declared-exact {field} form = (
-    λ known. at-listed (placed-exact form (placed (map packed names) field) .0 (refl, rw length-map at (ltb-true (placed (map packed names) field) (length (map packed names)) known))),
+    λ known. at-listed (declared-at form known),
     λ listed. let at = placed-exact form (listed-at listed .0) .1 (listed-at listed .1) in rw length-map (lt-ltb (placed (map packed names) field) (length names) (omega (arith, at .0, at .1))),
   )
 
@@ -139,12 +150,6 @@ every-exact test fields = (λ all s m. listed-passes test all m, back fields)
     back : (l : List (List ℕ)) → ((s : List ℕ) → Listed s l → test s ≡ true) → every test l ≡ true
     back [] each = refl
     back (t ∷ rest) each = ap₂ _&&_ (each t (first refl)) (back rest (λ s m. each s (next m)))
-
--- A role's name is among byte strings.
-pub record RoleOf (names written : List (List ℕ)) (role : ℕ) : Type 0 where
-  pub name : List ℕ
-  pub stands : At name names role
-  pub is-written : Listed name written
 
 -- byte strings that each stand where they are found
 Standing : (names fields : List (List ℕ)) → Type 0
@@ -183,13 +188,11 @@ module _ {names : List (List ℕ)} (all : Names names) (field : List ℕ) (forms
 
   -- Then its roles are those at the places of its names.
   pub roles-exact : length names ≤ 128 → allDeclared (map packed names) field ≡ true → (role : ℕ) → role ∈ rolesOf (map packed names) field ↔ RoleOf names (namesOf field) role
-  unfolding rolesOf Standing
+  unfolding rolesOf Standing allDeclared
   roles-exact few known role = (λ found. only (from-named names emptySet (namesOf field) standing found), back)
     where
       standing : Standing names (namesOf field)
-      standing name m =
-          let at = listed-at (all-declared-exact .0 known name m) in
-          subst⁻¹ (At name names) (placed-exact all (listed-passes isName forms m) (at .0) .1 (at .1) .0) (at .1)
+      standing name m = declared-at all (listed-passes isName forms m) (listed-passes (isDeclared (map packed names)) known m)
 
       only : (role ∈ emptySet) ⊎ RoleOf names (namesOf field) role → RoleOf names (namesOf field) role
       only (inl none) = absurd (empty-none none)

@@ -1,9 +1,9 @@
 -- Pinned is the number of names in all plus and minus fields of a typing text, from its bytes.
-use Prim.Native.Nat.{ℕ, zero, suc, _+_, _-_, _≤_}
-use mathlib.Core.Bool.{Bool, true, false, _&&_, _||_, and-eq-true-iff, false≢true}
+use Prim.Native.Nat.{ℕ, suc, _+_, _-_, _≤_}
+use mathlib.Core.Bool.{Bool, true, false, and-eq-true-iff, false≢true}
 use mathlib.Core.List.{List, [], _∷_, _++_, map, List·Memᴰ as Listed, List·Memᴰ·head as first, List·Memᴰ·tail as next, List·Memᴰ·not-nil as not-nil}
 use mathlib.Core.Logic.{_↔_}
-use mathlib.Core.Path.{_≡_, refl, sym, ap, ap₂, subst, subst⁻¹, _∙_}
+use mathlib.Core.Path.{_≡_, refl, sym, ap, ap₂, subst, _∙_}
 use lib.ListN.{length, length-map, replicate}
 use native.Mathlib.Omega.{arith}
 use Rattle.roles.specs.declared.RoleSet.{RoleSet}
@@ -26,7 +26,7 @@ use Rattle.spelt.specs.Names.{Names, At, here, later, RoleOf, neither, a
 use Rattle.spelt.specs.Policies.{roles-packed}
 use Rattle.spelt.specs.Lines.{ended}
 use Rattle.spelt.specs.Sets.{SetSpelt, written-names}
-use Rattle.spelt.specs.Typing.{Row, Rows, none, row, TypingSpelt}
+use Rattle.spelt.specs.Typing.{Rows, none, row, TypingSpelt}
 use Rattle.spelt.specs.TypingLines.{row-fields}
 use Rattle.spelt.specs.TypingExact.{typing-spelt, rows-clear}
 

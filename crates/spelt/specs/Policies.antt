@@ -1,11 +1,11 @@
 -- The role names and the user names of a policy that is read are byte strings that are names, packed.
-use Prim.Native.Nat.{ℕ, _+_, _<_}
-use mathlib.Core.Bool.{Bool, true, false, _&&_, _||_}
-use mathlib.Core.List.{List, [], _∷_, map}
+use Prim.Native.Nat.{ℕ, _<_}
+use mathlib.Core.Bool.{Bool, true, false, _&&_, _||_, and-eq-true-iff}
+use mathlib.Core.List.{List, [], _∷_, map, nil≢cons, head-eq-of-cons-eq, tail-eq-of-cons-eq}
 use mathlib.Core.Path.{_≡_, refl, sym, ap, ap₂, _∙_}
 use native.Mathlib.Omega.{arith}
 use Rattle.tables.specs.declared.Name.{Name}
-use Rattle.tables.specs.Names.{packed}
+use Rattle.tables.specs.Names.{packed, packed-one-to-one}
 use Rattle.text.specs.Forms.{every, isName}
 use Rattle.text.specs.Pieces.{sameBytes, among, repeated, same-equal}
 use Rattle.fields.specs.Fields.{placed}
@@ -68,3 +68,19 @@ roles-packed policy is = named-packed (names-read policy is)
 -- and its user names.
 pub users-packed : (policy : List ℕ) {s : Said} → readPolicy policy ≡ read s → Packed (s .users)
 users-packed policy is = named-packed (users-read policy is)
+
+-- ---- packing tells the names
+
+names-one : (names others : List (List ℕ)) → every isName names ≡ true → every isName others ≡ true → map packed names ≡ map packed others → names ≡ others
+unfolding every
+names-one [] [] forms forms′ same = refl
+names-one [] (t ∷ others) forms forms′ same = absurd (nil≢cons same)
+names-one (s ∷ names) [] forms forms′ same = absurd (nil≢cons (sym same))
+names-one (s ∷ names) (t ∷ others) forms forms′ same =
+    let each = and-eq-true-iff (isName s) (every isName names) .0 forms in
+    let each′ = and-eq-true-iff (isName t) (every isName others) .0 forms′ in
+    ap₂ _∷_ (packed-one-to-one s t (each .0) (each′ .0) (head-eq-of-cons-eq same)) (names-one names others (each .1) (each′ .1) (tail-eq-of-cons-eq same))
+
+-- A table is packed from one list of names.
+pub one-packing : {table : List Name} (one two : Packed table) → one .names ≡ two .names
+one-packing one two = names-one (one .names) (two .names) (one .are .forms) (two .are .forms) (sym (one .packing) ∙ two .packing)

@@ -1,6 +1,6 @@
 -- A typing text is read exactly when it is spelt so.
-use Prim.Native.Nat.{ℕ, suc, _+_, _≤_, _<_}
-use mathlib.Core.Bool.{Bool, true, false, _&&_, and-eq-true-iff}
+use Prim.Native.Nat.{ℕ, suc, _+_, _≤_}
+use mathlib.Core.Bool.{Bool, true, _&&_, and-eq-true-iff}
 use mathlib.Core.List.{List, [], _∷_, _++_, map, append-assoc, append-nil}
 use mathlib.Core.Logic.{_↔_}
 use mathlib.Core.Path.{_≡_, refl, sym, ap, ap₂, subst, subst⁻¹, _∙_}
@@ -10,16 +10,16 @@ use Rattle.roles.specs.declared.RoleSet.{RoleSet}
 use Rattle.tables.specs.declared.Name.{Name}
 use Rattle.tables.specs.Names.{packed}
 use Rattle.text.specs.Forms.{bytes, every, isName}
-use Rattle.reading.specs.Texts.{read}
+use Rattle.reading.specs.Texts.{goes, read}
 use Rattle.reading.specs.Policy.{Said, readPolicy}
 use Rattle.reading.specs.Kept.{read-bounded}
 use Rattle.typings.specs.TypingText.{Typed, untyped, judgeLine, readTyping}
 use Rattle.rereading.specs.Cuts.{free}
-use Rattle.spelt.specs.Names.{Names, At, here, later, at-below, at-listed, listed-passes}
+use Rattle.spelt.specs.Names.{Names, At, here, later, at-below}
 use Rattle.spelt.specs.Policies.{roles-packed}
-use Rattle.spelt.specs.Lines.{ended, Lead, last, onward, InLines, lines-exact}
+use Rattle.spelt.specs.Lines.{ended, Lead, last, onward, InLines, lead-opened, lines-exact}
 use Rattle.spelt.specs.Typing.{Row, Rows, none, row, TypingSpelt}
-use Rattle.spelt.specs.TypingLines.{headed, rowed, Adds, first, another, Ends, goes-adds, ends-end, adds-goes, end-ends, row-clear}
+use Rattle.spelt.specs.TypingLines.{headed, rowed, Adds, first, another, goes-adds, ends-end, adds-goes, end-ends, row-clear}
 
 -- what stands where some names end is the next name
 seam : (done : List (List ℕ)) (next : List ℕ) (rest : List (List ℕ)) {name : List ℕ} {place : ℕ} → place ≡ length done → At name (done ++ (next ∷ rest)) place → name ≡ next
@@ -101,24 +101,18 @@ module _ {names : List (List ℕ)} (all : Names names) (few : length names ≤ 1
             leads = left .leads ∙ extended-more (suc (length names)) s label plus minus (left .labels) (left .plus) (left .minus);
           }
 
-  -- the header stands first, and what was read after it leads on
-  record Opened (s : Typed) (lines : List (List ℕ)) (t : Typed) : Type 0 where
-    below : List (List ℕ)
-    are : lines ≡ bytes "typing\t1" ∷ below
-    lead : Lead (judgeLine (map packed names)) (headed s) below t
-
-  lead-opened : {s t : Typed} {lines : List (List ℕ)} → s .stage ≡ 0 → Lead (judgeLine (map packed names)) s lines t → Opened s lines t
-  lead-opened start (last is) = absurd (omega (arith, ends-end all few is .after))
-  lead-opened start (onward {s} {t} {u} {line} {lines} good below) = go (goes-adds all few good) below
+  -- before the first line only the header is good
+  header-first : (s : Typed) → s .stage ≡ 0 → (line : List ℕ) (t : Typed) → judgeLine (map packed names) s line ≡ goes t → (line ≡ bytes "typing\t1") × (t ≡ headed s)
+  header-first s start line t good = go (goes-adds all few good)
     where
-      go : {l : List ℕ} {v : Typed} → Adds names s l v → Lead (judgeLine (map packed names)) v lines u → Opened s (l ∷ lines) u
-      go (first begun) more = record { below = lines; are = refl; lead = more }
-      go (another stage stands said) more = absurd (omega arith)
+      go : {l : List ℕ} {v : Typed} → Adds names s l v → (l ≡ bytes "typing\t1") × (v ≡ headed s)
+      go (first begun) = (refl, refl)
+      go (another stage stands said) = absurd (omega arith)
 
   lead-spelt : {text : List ℕ} {t : Typed} → length text ≤ 32768 → InLines (judgeLine (map packed names)) untyped text t → TypingSpelt names text t
   unfolding untyped headed extended
   lead-spelt {text} {t} short whole =
-      let opened = lead-opened refl (whole .lead) in
+      let opened = lead-opened (judgeLine (map packed names)) (bytes "typing\t1") (headed untyped) (λ line is. omega (arith, ends-end all few is .after)) (header-first untyped refl) (whole .lead) in
       let left = rows-left [] names refl refl (opened .lead) in
       record {
         short = short;

@@ -1,5 +1,5 @@
 -- The lines of a typing: each is judged good exactly when it is spelt so, after the lines above it.
-use Prim.Native.Nat.{ℕ, suc, _+_, _≤_, _<_}
+use Prim.Native.Nat.{ℕ, suc, _+_, _≤_}
 use mathlib.Core.Bool.{Bool, true, false, cond, _&&_, _||_, and-eq-true-iff, false≢true, true≢false}
 use mathlib.Core.List.{List, [], _∷_, _++_, map}
 use mathlib.Core.Logic.{_↔_}
@@ -12,7 +12,7 @@ use native.Mathlib.Omega.{arith}
 use Rattle.roles.specs.declared.RoleSet.{RoleSet}
 use Rattle.tables.specs.declared.Name.{Name}
 use Rattle.tables.specs.Names.{packed}
-use Rattle.text.specs.Forms.{bytes, every, between, nameByte, isName, isLabel, isSet}
+use Rattle.text.specs.Forms.{bytes, every, isName, isLabel, isSet}
 use Rattle.text.specs.Pieces.{split, onto, sameBytes, same-equal}
 use Rattle.fields.specs.Fields.{placed, allDeclared, rolesOf}
 use Rattle.fields.specs.Turns.{turnOf}
@@ -23,7 +23,7 @@ use Rattle.typings.specs.TypingText.{Typed, added, answered, judgeLine}
 use Rattle.rereading.specs.Cuts.{free, free-name}
 use Rattle.rereading.specs.Joined.{Apart, free-joined}
 use Rattle.rereading.specs.Rows.{tab, newline, label-name, label-form, label-back, header-good, end-good}
-use Rattle.spelt.specs.Names.{Names, At, at-listed, at-below, listed-passes, placed-exact}
+use Rattle.spelt.specs.Names.{Names, At, at-listed, listed-passes, placed-exact}
 use Rattle.spelt.specs.Lines.{parted, fields-parted, parted-fields, parted-free}
 use Rattle.spelt.specs.Sets.{SetSpelt, set-read, written-forms, set-form, set-declared, set-is}
 use Rattle.spelt.specs.Typing.{Row}
