@@ -13,3 +13,4 @@ pub mod ReadBack
 pub mod Checked
 pub mod SumLaws
 pub mod BadTyping
+pub mod Pinned
