@@ -11,11 +11,10 @@ use Rattle.model.specs.Policy.{State, Run, Present}
 use Rattle.model.specs.Policy as model
 use Rattle.model.specs.States.{present-back}
 use Rattle.places.specs.declared.BadPlace.{BadPlace}
-use Rattle.places.specs.Place.{badPlace}
-use Rattle.places.specs.PlaceLaws.{evidence-inside, policy-inside}
-use Rattle.reading.specs.Policy.{policyOf}
+use Rattle.places.specs.Place.{refusalOf, badPlace}
+use Rattle.places.specs.PlaceLaws.{place-ordered}
 use Rattle.reading.specs.Kept.{read-bounded}
-use Rattle.steps.specs.Exact.{ran-run}
+use Rattle.following.specs.Exact.{follows-run}
 use Rattle.writing.specs.Written.{put}
 use Rattle.writing.specs.Buffers.{Wrote, wrote-as}
 use Rattle.summing.specs.Outcome.{Outcome, answerIn, bufferAfter, Meets}
@@ -31,11 +30,7 @@ use Rattle.arbac.specs.Face.{badNumbers, roomFor, toldCount, toldIn, buf
 module _ (policy evidence : List ℕ) {place : BadPlace} (is : place ≡ badPlace policy evidence) where
   -- it does not end before it begins
   pub bad-ordered : place .from ≤ place .to
-  bad-ordered = go (place .evidence) refl
-    where
-      go : (b : Bool) → place .evidence ≡ b → place .from ≤ place .to
-      go true there = evidence-inside policy evidence is there .0
-      go false there = policy-inside policy evidence is there .0
+  bad-ordered = place-ordered policy evidence (refusalOf policy evidence) is
 
   -- its numbers, as they are computed
   pub bad-told : (boolByte (place .evidence) ∷ place .from ∷ (place .to - place .from) ∷ []) ≡ badNumbers policy evidence
@@ -56,7 +51,6 @@ present-first (model.next run (model.assign listed can)) here = present-first ru
 present-first (model.next run (model.revoke listed can)) here = present-first run (present-back _ _ _ here)
 
 pub user-listed : (policy evidence : List ℕ) {answer : Answer} → answer ≡ answerOf policy evidence → UserListed answer
-unfolding policyOf
 user-listed policy evidence is = record { below = λ steps user goal attacked. go steps user goal (sym is ∙ attacked) }
   where
     go : (steps user goal : ℕ) → answerOf policy evidence ≡ Answer.Attacked steps user goal → user < 64
@@ -64,7 +58,7 @@ user-listed policy evidence is = record { below = λ steps user goal attacked. g
         let texts = attacked-exact policy evidence steps user goal .0 attacked in
         let found = texts .holds .first in
         let bounded = read-bounded policy (texts .said) (texts .reads) in
-        omega (arith, present-first (ran-run (policyOf (texts .said)) (texts .holds .trace .steps) (texts .holds .runs)) (found .present) .listed, found .user-number, bounded .users, bounded .holdings)
+        omega (arith, present-first (follows-run (texts .holds .follows)) (found .present) .listed, found .user-number, bounded .users, bounded .holdings)
 
 -- ---- told in a lent array
 

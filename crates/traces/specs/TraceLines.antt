@@ -24,6 +24,7 @@ unfoldable pub fourFields : (word actor number user : List ℕ) → Line
 fourFields word actor number user =
     cond (sameBytes word (bytes "assign")) (assign actor number user) (cond (sameBytes word (bytes "revoke")) (revoke actor number user) other)
 
+-- Any other number of fields is no step.
 unfoldable pub lineOf : List (List ℕ) → Line
 lineOf [] = other
 lineOf (w ∷ []) = other
@@ -53,11 +54,13 @@ judged assigns revokes users (revoke actor number user) =
     answerTo (turnOf (isStep actor number user) (stepNamed revokes users actor number user)) (Step.Revoke (placed users actor) (numberOf number - 1) (placed users user))
 judged assigns revokes users other = TraceLine.Bad 15
 
+-- A step line, judged by its fields.
 unfoldable pub traceLine : (assigns revokes : ℕ) → List Name → List ℕ → TraceLine
 traceLine assigns revokes users line = judged assigns revokes users (lineOf (split 9 line))
 
 -- ---- a step line, from what a reader finds
 
+-- an assign step, and else a revoke step
 unfoldable pub stepOf : (assigning : Bool) (actor rule user : ℕ) → Step
 stepOf true actor rule user = Step.Assign actor rule user
 stepOf false actor rule user = Step.Revoke actor rule user

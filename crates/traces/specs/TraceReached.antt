@@ -9,7 +9,7 @@ use Rattle.tables.specs.declared.Name.{Name}
 use Rattle.text.specs.Forms.{bytes}
 use Rattle.text.specs.Pieces.{part, sameBytes, Sought}
 use Rattle.steps.specs.declared.Step.{Step}
-use Rattle.reading.specs.Texts.{read, refused}
+use Rattle.reading.specs.Texts.{refused}
 use Rattle.traces.specs.declared.TraceLine.{TraceLine}
 use Rattle.traces.specs.TraceLines.{traceLine}
 use Rattle.traces.specs.TraceText.{hasHeader, readTrace, refusedTrace, answerOf, traceRead}

@@ -34,6 +34,7 @@ answered s (TraceLine.Bad number) = bad number
 unfoldable pub laterLine : (assigns revokes : ℕ) → List Name → Traced → List ℕ → Judged Traced
 laterLine assigns revokes users s line = cond (sameBytes line (bytes "end")) ends (answered s (traceLine assigns revokes users line))
 
+-- The header first, then steps, then `end`.
 unfoldable pub judgeLine : (assigns revokes : ℕ) → List Name → Traced → List ℕ → Judged Traced
 judgeLine assigns revokes users s line = cond (s .started) (laterLine assigns revokes users s line) (headerLine s line)
 
@@ -52,12 +53,15 @@ unfoldable pub codeOf : TraceLine → ℕ
 codeOf (TraceLine.Step step) = 0
 codeOf (TraceLine.Bad number) = number
 
+-- a refused text has no steps
 unfoldable pub refusedTrace : (number line : ℕ) → TraceRead
 refusedTrace number line = record { refusal = number; line = line; steps = 0 }
 
+-- the number of steps of a text that is read
 unfoldable pub answerOf : Reading Traced → TraceRead
 answerOf (read s) = record { refusal = 0; line = 0; steps = length (s .steps) }
 answerOf (refused number line) = refusedTrace number line
 
+-- the refusal of a text, or the number of its steps
 unfoldable pub traceRead : (assigns revokes : ℕ) → List Name → List ℕ → TraceRead
 traceRead assigns revokes users text = answerOf (readTrace assigns revokes users text)

@@ -30,11 +30,12 @@ module _ (assigns revokes : ℕ) (users : List Name) where
   unfolding readTrace
   trace-long text long = text-long (judgeLine assigns revokes users) 15 14 untraced text long
 
-  -- The text begins with the header,
+  -- a first line that is not the header is malformed
   other-first : (line : List ℕ) → (line ≡ bytes "trace\t1" → ⊥) → judgeLine assigns revokes users untraced line ≡ bad 15
   unfolding judgeLine untraced headerLine
   other-first line differs = rw (sym (same-answer line (bytes "trace\t1") false (λ e. absurd (false≢true e)) (λ is. absurd (differs is))))
 
+  -- The text begins with the header,
   pub after-header : (text : List ℕ) → length text ≤ 32768 → hasHeader text ≡ true → After assigns revokes users text 8 2 []
   unfolding hasHeader begins judgeLine untraced headerLine sameBytes split onto
   after-header text short is =
