@@ -15,7 +15,7 @@ use Rattle.writing.specs.Spelling.{decimal-length, spelled-length}
 use Rattle.answering.specs.declared.Answer.{Answer}
 use Rattle.answering.specs.Answers.{nameAt}
 use Rattle.printing.specs.Line.{field, partText, lineOf, checkLine}
-use Rattle.printing.specs.Program.{File, held, unread, noFile, programLine}
+use Rattle.printing.specs.Program.{noFile, programLine}
 use Rattle.arbac.specs.Face.{roomFor, toldCount}
 
 -- 0 is answered exactly when the array has no room: every answer has a number at least.
@@ -62,8 +62,8 @@ unfolding checkLine
 line-longest policy evidence = line-length _ _
 
 -- The same of the line that the program prints, NOFILE among them.
-pub program-longest : (policy evidence : File) → length (programLine policy evidence) ≤ 128
+pub program-longest : (policyRead : Bool) (policy : List ℕ) (evidenceRead : Bool) (evidence : List ℕ) → length (programLine policyRead policy evidenceRead evidence) ≤ 128
 unfolding programLine noFile field
-program-longest unread evidence = lit≤ tt
-program-longest (held policy) unread = lit≤ tt
-program-longest (held policy) (held evidence) = line-longest policy evidence
+program-longest false policy evidenceRead evidence = lit≤ tt
+program-longest true policy false evidence = lit≤ tt
+program-longest true policy true evidence = line-longest policy evidence
