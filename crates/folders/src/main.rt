@@ -12,7 +12,13 @@ fn run(first: usize, second: usize) {
     io::write_all(STDOUT_FILENO, b"\t");
     io::write_all(STDOUT_FILENO, &evidence[..evidence_length]);
     io::write_all(STDOUT_FILENO, b"\t");
-    program::run(&policy[..policy_length], &evidence[..evidence_length]);
+    let mut line = [0u8; 128];
+    let length = program::line_of(
+        &policy[..policy_length],
+        &evidence[..evidence_length],
+        &mut line,
+    );
+    io::write_all(STDOUT_FILENO, &line[..length]);
 }
 
 fn main() {
