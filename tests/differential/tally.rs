@@ -190,6 +190,8 @@ const SECTIONS: [Section; 7] = [
             "sum of 32,769 bytes",
             "merged sum of 32,768 bytes",
             "merged sum of 32,769 bytes",
+            "sum buffer with room for a text above 32,768 bytes",
+            "merge buffer with room for a text above 32,768 bytes",
         ],
     },
 ];
