@@ -43,35 +43,40 @@ impl Kept {
     }
 
     /// Compares what is printed for each case: it stands where the case before it ends, or, where
-    /// that one differs, where the words that begin this one are found.
+    /// that one differs, at the next line that begins with its words.
     fn compare(&self, cases: &[Said]) -> usize {
         let mut at = 0;
         let mut differ = 0;
+        let mut lost = false;
         for case in cases {
-            let rest = &self.stdout[at..];
-            if rest.starts_with(&case.printed) {
-                at += case.printed.len();
-                continue;
+            if lost {
+                at = self.line_with(at, &case.begins);
             }
-            differ += 1;
-            let printed = String::from_utf8_lossy(&case.printed);
-            println!("{}: the reference says {}", self.folder.display(), printed);
-            let begins = rest.windows(case.begins.len()).position(|part| part == case.begins);
-            if let Some(place) = begins {
-                let after = at + place + case.begins.len();
-                let line = self.stdout[after..].iter().position(|&byte| byte == b'\n');
-                at = line.map_or(self.stdout.len(), |length| after + length + 1);
+            lost = !self.stdout[at..].starts_with(&case.printed);
+            if lost {
+                differ += 1;
+                let printed = String::from_utf8_lossy(&case.printed);
+                println!("{}: the reference says {}", self.folder.display(), printed);
+            } else {
+                at += case.printed.len();
             }
         }
-        if differ == 0 && at < self.stdout.len() {
+        if !lost && at < self.stdout.len() {
             println!("{}: more is printed than is asked", self.folder.display());
             differ += 1;
         }
         differ
     }
+
+    /// Where the next line begins that begins so; the place itself where there is none.
+    fn line_with(&self, at: usize, begins: &[u8]) -> usize {
+        let wanted = [b"\n", begins].concat();
+        let found = self.stdout[at..].windows(wanted.len()).position(|part| part == wanted);
+        found.map_or(at, |place| at + place + 1)
+    }
 }
 
-/// What a program has to print for a case, and how that begins.
+/// What a program has to print for a case, and the words that it begins with.
 struct Said {
     begins: Vec<u8>,
     printed: Vec<u8>,
@@ -79,8 +84,8 @@ struct Said {
 
 impl Said {
     fn new(begins: String, rest: &[u8]) -> Said {
-        let printed = [begins.as_bytes(), rest].concat();
-        Said { begins: begins.into_bytes(), printed: printed }
+        let begins = [begins.as_bytes(), b"\t"].concat();
+        Said { printed: [&begins, rest].concat(), begins: begins }
     }
 }
 
@@ -89,7 +94,7 @@ fn check(kept: &Kept, words: &[String]) -> Said {
     let (policy, evidence) = (kept.text(&words[1]), kept.text(&words[2]));
     let bad = reference::bad_line(&policy, &evidence);
     let text = if bad.in_evidence { "evidence" } else { "policy" };
-    let place = format!("\t{}\t{}\t{}\t", text, bad.offset, bad.offset + bad.length);
+    let place = format!("{}\t{}\t{}\t", text, bad.offset, bad.offset + bad.length);
     let line = reference::line(&reference::check(&policy, &evidence));
     Said::new(words[0].clone(), &[place.as_bytes(), &line, b"\n"].concat())
 }
@@ -106,7 +111,7 @@ fn joined(kept: &Kept, words: &[String]) -> Said {
         }
         _ => panic!("three texts or four"),
     };
-    let line = format!("\t{}\t{}\n", answer, room - text.len());
+    let line = format!("{}\t{}\n", answer, room - text.len());
     Said::new(words[..3].join("\t"), &[line.as_bytes(), &text].concat())
 }
 
