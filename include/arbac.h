@@ -1,5 +1,5 @@
 /* The library's functions for C callers: a policy text and a piece of evidence judged, its line, its bad line, the sum of two
-   typings, and the merge of two judged policies.
+   typings, the merge of two judged policies, and the bad line of a typing that they refuse.
 
    Every slice is two arguments, where it begins and how many elements it has. A pointer is never null, not even where the
    length is 0, and numbers stand at addresses divisible by 8. No text is changed, and texts may overlap each other. What is
@@ -121,6 +121,13 @@ size_t arbac_check_line(const uint8_t *policy, size_t policy_length,
 uint64_t arbac_bad_line(const uint8_t *policy, size_t policy_length,
                         const uint8_t *evidence, size_t evidence_length,
                         uint64_t *place, size_t place_length);
+
+/* The same of a policy and a text where a typing is wanted, which is read as a typing whatever its first line: the bad line of a
+   typing that a sum or a merge refuses with 15 or 16, over the policy that it is read over, or of a policy that they refuse with
+   11, 12 or 13. A trace there is bad at line 1. */
+uint64_t arbac_bad_typing_line(const uint8_t *policy, size_t policy_length,
+                               const uint8_t *typing, size_t typing_length,
+                               uint64_t *place, size_t place_length);
 
 /* Writes the sum of two typings over one policy, accepted or not, as a typing text.
 

@@ -1,5 +1,5 @@
-/* The library called from C: the desk policy judged, a blank field found, and the guard pair summed and merged. What a function
-   returns is looked at before anything that it wrote. It is C11 and C++17. */
+/* The library called from C: the desk policy judged, a blank field found, the guard pair summed and merged, and a trace refused
+   where a typing is wanted. What a function returns is looked at before anything that it wrote. It is C11 and C++17. */
 #include <inttypes.h>
 #include <stdio.h>
 #include <stdlib.h>
@@ -44,10 +44,9 @@ static const char *part_name(uint64_t part) {
 }
 
 /* The line that is wrong, as a part of the text that it stands in. */
-static void print_bad_line(const struct text *policy, const struct text *evidence) {
-    uint64_t place[ARBAC_BAD_LINE];
+static void print_bad_line(uint64_t text, const uint64_t *place, const struct text *policy, const struct text *evidence) {
     const uint8_t *bytes = NULL;
-    switch (arbac_bad_line(policy->bytes, policy->length, evidence->bytes, evidence->length, place, ARBAC_BAD_LINE)) {
+    switch (text) {
     case ARBAC_IN_POLICY:
         bytes = policy->bytes;
         break;
@@ -70,7 +69,7 @@ static void check_texts(const char *policy_path, const char *evidence_path) {
     }
     fwrite(line, 1, length, stdout);
 
-    uint64_t values[ARBAC_CHECK];
+    uint64_t values[ARBAC_CHECK], place[ARBAC_BAD_LINE], text;
     uint64_t answer = arbac_check(policy.bytes, policy.length, evidence.bytes, evidence.length, values, ARBAC_CHECK);
     switch (answer) {
     case ARBAC_SAFE:
@@ -98,14 +97,16 @@ static void check_texts(const char *policy_path, const char *evidence_path) {
         break;
     default:
         printf("refused %" PRIu64 " at line %" PRIu64 "\n", answer, values[0]);
-        print_bad_line(&policy, &evidence);
+        text = arbac_bad_line(policy.bytes, policy.length, evidence.bytes, evidence.length, place, ARBAC_BAD_LINE);
+        print_bad_line(text, place, &policy, &evidence);
     }
 }
 
-/* The sum of two typings over a policy, or the refusal. */
+/* The sum of two typings over a policy, or the refusal with its bad line. */
 static void print_sum(const struct text *policy, const struct text *first, const struct text *second) {
     uint8_t out[ARBAC_TEXT];
-    uint64_t values[ARBAC_SUM];
+    uint64_t values[ARBAC_SUM], place[ARBAC_BAD_LINE], text;
+    const struct text *typing = first;
     uint64_t answer = arbac_sum(policy->bytes, policy->length, first->bytes, first->length, second->bytes, second->length,
                                 out, sizeof out, values, ARBAC_SUM);
     switch (answer) {
@@ -116,8 +117,18 @@ static void print_sum(const struct text *policy, const struct text *first, const
     case ARBAC_NO_ROOM:
         stop("sum");
         break;
+    case ARBAC_SUM_TOO_LONG:
+    case ARBAC_POLICY_TOO_LONG:
+    case ARBAC_EVIDENCE_TOO_LONG:
+        printf("no sum: %" PRIu64 "\n", answer);
+        break;
     default:
         printf("no sum: %" PRIu64 ", text %" PRIu64 " at line %" PRIu64 "\n", answer, values[0], values[1]);
+        if (values[0] == ARBAC_SUM_SECOND) {
+            typing = second;
+        }
+        text = arbac_bad_typing_line(policy->bytes, policy->length, typing->bytes, typing->length, place, ARBAC_BAD_LINE);
+        print_bad_line(text, place, policy, typing);
     }
 }
 
@@ -161,5 +172,10 @@ int main(void) {
     struct text policy_2 = read_text("crates/cases/data/guard_b.policy"), typing_2 = read_text("crates/cases/data/guard_b.typing");
     print_sum(&policy_1, &typing_1, &typing_2);
     print_merge(&policy_1, &typing_1, &policy_2, &typing_2);
+
+    /* a trace is no typing */
+    struct text loose = read_text("examples/loose_desk/policy.txt"), trace = read_text("examples/loose_desk/evidence.txt");
+    struct text typing = read_text("examples/desk/evidence.txt");
+    print_sum(&loose, &typing, &trace);
     return 0;
 }

@@ -304,6 +304,9 @@ fn main() {
     print_stack("bad_line", &checks, |texts, lent| {
         lent.answered = library::bad_line(&texts[0], &texts[1], &mut lent.values);
     });
+    print_stack("bad_typing_line", &checks, |texts, lent| {
+        lent.answered = library::bad_typing_line(&texts[0], &texts[1], &mut lent.values);
+    });
     print_stack("sum", &sums, ask_library);
     print_stack("merge", &merges, ask_library);
 }

@@ -68,6 +68,12 @@ const BAD_LINE: Told = Told {
     one_short: "bad line array one number short",
     shorter: "bad line array shorter",
 };
+const BAD_TYPING_LINE: Told = Told {
+    call: "arbac_bad_typing_line",
+    least: answers::BAD_LINE,
+    one_short: "bad typing line array one number short",
+    shorter: "bad typing line array shorter",
+};
 const SUM: Told = Told {
     call: "arbac_sum",
     least: answers::SUM,
@@ -129,8 +135,8 @@ impl<'a> Comparing<'a> {
         self.differences.push(Difference { call: call, library: library, reference: reference });
     }
 
-    /// The answer; often its line, which is made from the same answer; and the bad line, seldom
-    /// where there is none.
+    /// The answer; often its line, which is made from the same answer; the bad line, seldom where
+    /// there is none; and now and then the bad line where a typing is wanted.
     fn check(&mut self, policy: &[u8], evidence: &[u8]) {
         let answer = reference::check(policy, evidence);
         self.count(rows::check(&answer));
@@ -142,6 +148,9 @@ impl<'a> Comparing<'a> {
         }
         if matches!(answer, Answer::Refused { .. }) || self.chance.one_in(4) {
             self.bad_line(policy, evidence, &answer);
+        }
+        if self.chance.one_in(4) {
+            self.bad_typing_line(policy, evidence);
         }
     }
 
@@ -161,6 +170,14 @@ impl<'a> Comparing<'a> {
         self.count(rows::bad_line(answer, &bad));
         self.told(&BAD_LINE, 0, &Said::bad_line(&bad), &|_, place| {
             library::bad_line(policy, evidence, place)
+        });
+    }
+
+    fn bad_typing_line(&mut self, policy: &[u8], typing: &[u8]) {
+        let bad = reference::bad_typing_line(policy, typing);
+        self.count(rows::bad_typing_line(typing, &bad));
+        self.told(&BAD_TYPING_LINE, 0, &Said::bad_line(&bad), &|_, place| {
+            library::bad_typing_line(policy, typing, place)
         });
     }
 

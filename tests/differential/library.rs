@@ -29,6 +29,15 @@ extern "C" {
         place_length: usize,
     ) -> u64;
 
+    fn arbac_bad_typing_line(
+        policy: *const u8,
+        policy_length: usize,
+        typing: *const u8,
+        typing_length: usize,
+        place: *mut u64,
+        place_length: usize,
+    ) -> u64;
+
     fn arbac_sum(
         policy: *const u8,
         policy_length: usize,
@@ -91,6 +100,19 @@ pub fn bad_line(policy: &[u8], evidence: &[u8], place: &mut [u64]) -> u64 {
             policy.len(),
             evidence.as_ptr(),
             evidence.len(),
+            place.as_mut_ptr(),
+            place.len(),
+        )
+    }
+}
+
+pub fn bad_typing_line(policy: &[u8], typing: &[u8], place: &mut [u64]) -> u64 {
+    unsafe {
+        arbac_bad_typing_line(
+            policy.as_ptr(),
+            policy.len(),
+            typing.as_ptr(),
+            typing.len(),
             place.as_mut_ptr(),
             place.len(),
         )

@@ -12,7 +12,7 @@ use native.Mathlib.Omega.{arith}
 use Rattle.tables.specs.declared.Name.{Name}
 use Rattle.reading.specs.Policy.{padded}
 use Rattle.places.specs.declared.BadPlace.{BadPlace}
-use Rattle.places.specs.Place.{badPlace, badLine}
+use Rattle.places.specs.Place.{bytesAt, badPlace, badLine, badTypingPlace, badTypingLine}
 use Rattle.judging.specs.declared.Part.{Part}
 use Rattle.writing.specs.Written.{put}
 use Rattle.writing.specs.Buffers.{put-before}
@@ -101,16 +101,25 @@ pub zeros-past : (width : ℕ) (values : List ℕ) → drop (length values) (pad
 unfolding padded
 zeros-past width values = drop-append-seam values (replicate (width - length values) 0)
 
--- The bytes that the place tells, so many from where the line begins in the text, are the bad line.
-pub bad-bytes : (policy evidence : List ℕ) → let place = badPlace policy evidence in take (place .to - place .from) (drop (place .from) (cond (place .evidence) evidence policy)) ≡ badLine policy evidence
-unfolding badLine
-bad-bytes policy evidence = go (badPlace policy evidence .evidence)
+-- The bytes that a place tells, so many from where it begins in its text, are those at the place.
+pub place-bytes : (policy evidence : List ℕ) (place : BadPlace) → take (place .to - place .from) (drop (place .from) (cond (place .evidence) evidence policy)) ≡ bytesAt policy evidence place
+place-bytes policy evidence place = go (place .evidence)
   where
     go : (b : Bool)
-        → take (badPlace policy evidence .to - badPlace policy evidence .from) (drop (badPlace policy evidence .from) (cond b evidence policy))
-        ≡ cond b (take (badPlace policy evidence .to - badPlace policy evidence .from) (drop (badPlace policy evidence .from) evidence)) (take (badPlace policy evidence .to - badPlace policy evidence .from) (drop (badPlace policy evidence .from) policy))
+        → take (place .to - place .from) (drop (place .from) (cond b evidence policy))
+        ≡ cond b (take (place .to - place .from) (drop (place .from) evidence)) (take (place .to - place .from) (drop (place .from) policy))
     go true = refl
     go false = refl
+
+-- So the bytes that `arbac_bad_line` tells are the bad line,
+pub bad-bytes : (policy evidence : List ℕ) → let place = badPlace policy evidence in take (place .to - place .from) (drop (place .from) (cond (place .evidence) evidence policy)) ≡ badLine policy evidence
+unfolding badLine
+bad-bytes policy evidence = place-bytes policy evidence (badPlace policy evidence)
+
+-- and those that `arbac_bad_typing_line` tells are the bad line where a typing is wanted.
+pub bad-typing-bytes : (policy typing : List ℕ) → let place = badTypingPlace policy typing in take (place .to - place .from) (drop (place .from) (cond (place .evidence) typing policy)) ≡ badTypingLine policy typing
+unfolding badTypingLine
+bad-typing-bytes policy typing = place-bytes policy typing (badTypingPlace policy typing)
 
 -- ---- the line
 

@@ -1,7 +1,7 @@
--- The bad line's place and the user of an answer as they are told, and how a number and values are told in a lent array, with room and without.
+-- The user of an answer as it is told, and how a number and values are told in a lent array, with room and without.
 use Prim.Native.Nat.{ℕ, _≤_, _<_}
 use borrow.Author.Tests.{lt-leb, le-leb}
-use mathlib.Core.Bool.{Bool, true, false, cond}
+use mathlib.Core.Bool.{Bool, cond}
 use mathlib.Core.List.{List}
 use mathlib.Core.Path.{_≡_, refl, sym, ap, _∙_}
 use lib.ListN.{length}
@@ -9,9 +9,6 @@ use native.Mathlib.Omega.{arith}
 use Rattle.model.specs.Policy.{State, Run, Present}
 use Rattle.model.specs.Policy as model
 use Rattle.model.specs.States.{present-back}
-use Rattle.places.specs.declared.BadPlace.{BadPlace}
-use Rattle.places.specs.Place.{badPlace}
-use Rattle.places.specs.PlaceLaws.{evidence-inside, policy-inside}
 use Rattle.reading.specs.Policy.{policyOf}
 use Rattle.reading.specs.Kept.{read-bounded}
 use Rattle.steps.specs.Exact.{ran-run}
@@ -23,16 +20,6 @@ use Rattle.answering.specs.Exact.{attacked-exact}
 use Rattle.telling.specs.Numbers.{Told, UserListed}
 use Rattle.telling.specs.NumberLaws.{known-told}
 use Rattle.arbac.specs.Face.{noRoom, roomFor, toldNumber, toldIn, bufferTold}
-
--- ---- the bad line
-
--- it does not end before it begins
-pub bad-ordered : (policy evidence : List ℕ) {place : BadPlace} → place ≡ badPlace policy evidence → place .from ≤ place .to
-bad-ordered policy evidence {place} is = go (place .evidence) refl
-  where
-    go : (b : Bool) → place .evidence ≡ b → place .from ≤ place .to
-    go true there = evidence-inside policy evidence is there .0
-    go false there = policy-inside policy evidence is there .0
 
 -- ---- the user of ATTACKED
 

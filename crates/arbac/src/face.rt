@@ -3,7 +3,7 @@
 ghost use mathlib.Core.Path.{_≡_};
 ghost use lib.ListN.{length};
 ghost use Rattle.summing.specs.Outcome.{answerIn};
-ghost use Rattle.places.specs.Place.{badPlace};
+ghost use Rattle.places.specs.Place.{badPlace, badTypingPlace};
 ghost use Rattle.summing.specs.Sum.{sumOutcome};
 ghost use Rattle.summing.specs.Sum as sums;
 ghost use Rattle.merging.specs.Merge.{mergeOutcome};
@@ -15,6 +15,7 @@ ghost use Rattle.arbac.specs.Face.{toldNumber, toldIn, bufferTold};
 use answering::check;
 use merging::merge::merge;
 use places::bad_place;
+use places::bad_typing_place;
 use printing::check_line;
 use summing::sum;
 use telling::tell_check;
@@ -58,6 +59,18 @@ pub extern "C" fn arbac_bad_line(policy: &[u8], evidence: &[u8], place: &mut [u6
         return NO_ROOM;
     }
     tell_place(place, bad_place(policy, evidence))
+}
+
+// The same of a policy and a text where a typing is wanted, as sum and merge want one.
+#[no_mangle]
+pub extern "C" fn arbac_bad_typing_line(policy: &[u8], typing: &[u8], place: &mut [u64]) -> u64
+    ensures { λ r. ⌜ r ≡ toldNumber 2 (placeText (badTypingPlace (now (policy .entry)) (now (typing .entry)))) (now (place .entry)) ⌝ }
+    ensures { λ _. ⌜ now (place .exit) ≡ toldIn 2 (placeValues (badTypingPlace (now (policy .entry)) (now (typing .entry)))) (now (place .entry)) ⌝ }
+{
+    if place.len() < 2 {
+        return NO_ROOM;
+    }
+    tell_place(place, bad_typing_place(policy, typing))
 }
 
 // Writes the sum of two typings over a policy into a buffer, answers the answer's number, and tells its values in an array of at

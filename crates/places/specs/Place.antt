@@ -25,17 +25,25 @@ unfoldable pub told : {S : Type 0} → Reading S → Refusal
 told (read s) = record { number = 0; line = 0 }
 told (refused number line) = record { number = number; line = line }
 
--- the refusal of evidence over a policy's counts and names
-unfoldable pub refusedOver : (assigns revokes : ℕ) (roles users : List Name) → List ℕ → Refusal
-refusedOver assigns revokes roles users text = cond (isTyping text) (told (readTyping roles text)) (told (readTrace assigns revokes users text))
+-- the refusal of evidence over a policy's counts and names, read as a typing or as a trace
+unfoldable pub refusedOver : (typing : Bool) (assigns revokes : ℕ) (roles users : List Name) → List ℕ → Refusal
+refusedOver typing assigns revokes roles users text = cond typing (told (readTyping roles text)) (told (readTrace assigns revokes users text))
 
 -- Order: policy length, policy lines, evidence length, evidence lines.
-unfoldable pub refusalAfter : Reading Said → List ℕ → Refusal
-refusalAfter (read s) evidence = refusedOver (length (s .assigns)) (length (s .revokes)) (s .roles) (s .users) evidence
-refusalAfter (refused number line) evidence = record { number = number; line = line }
+unfoldable pub refusalAfter : Reading Said → (typing : Bool) → List ℕ → Refusal
+refusalAfter (read s) typing evidence = refusedOver typing (length (s .assigns)) (length (s .revokes)) (s .roles) (s .users) evidence
+refusalAfter (refused number line) typing evidence = record { number = number; line = line }
 
-unfoldable pub refusalOf : (policy evidence : List ℕ) → Refusal
-refusalOf policy evidence = refusalAfter (readPolicy policy) evidence
+unfoldable pub refusalAs : (typing : Bool) (policy evidence : List ℕ) → Refusal
+refusalAs typing policy evidence = refusalAfter (readPolicy policy) typing evidence
+
+-- The refusal of a policy and a piece of evidence, which is read as its first line says.
+abbrev pub refusalOf : (policy evidence : List ℕ) → Refusal
+refusalOf policy evidence = refusalAs (isTyping evidence) policy evidence
+
+-- The refusal of a policy and a text where a typing is wanted, which is read as a typing whatever its first line.
+abbrev pub typingRefusalOf : (policy typing : List ℕ) → Refusal
+typingRefusalOf policy typing = refusalAs true policy typing
 
 -- no line: nowhere, at the start
 unfoldable pub noSpan : Span
@@ -54,14 +62,33 @@ spanOf text at (suc skipped) =
 unfoldable pub badSpan : (policy evidence : List ℕ) → Refusal → Span
 badSpan policy evidence r = cond (eqb (r .line) 0) noSpan (cond (ltb (r .number) 14) (spanOf policy 0 (r .line - 1)) (spanOf evidence 0 (r .line - 1)))
 
-unfoldable pub badPlace : (policy evidence : List ℕ) → BadPlace
-badPlace policy evidence =
-    let r = refusalOf policy evidence in
+-- Which text the bad line of a refusal stands in, and where: nowhere, at the policy's start, where no line is bad.
+unfoldable pub placeOf : (policy evidence : List ℕ) → Refusal → BadPlace
+placeOf policy evidence r =
     let s = badSpan policy evidence r in
     record { evidence = s .found && leb 14 (r .number); from = s .from; to = s .to }
 
--- The bad line's bytes, a part of one of the two texts.
+-- The bytes at a place of one of the two texts.
+abbrev pub bytesAt : (policy evidence : List ℕ) → BadPlace → List ℕ
+bytesAt policy evidence place = cond (place .evidence) (part evidence (place .from) (place .to)) (part policy (place .from) (place .to))
+
+-- The bad line of a policy and a piece of evidence: its place, and its bytes.
+abbrev pub badPlace : (policy evidence : List ℕ) → BadPlace
+badPlace policy evidence = placeOf policy evidence (refusalOf policy evidence)
+
 unfoldable pub badLine : (policy evidence : List ℕ) → List ℕ
-badLine policy evidence =
-    let place = badPlace policy evidence in
-    cond (place .evidence) (part evidence (place .from) (place .to)) (part policy (place .from) (place .to))
+badLine policy evidence = bytesAt policy evidence (badPlace policy evidence)
+
+-- The same of a policy and a text where a typing is wanted.
+abbrev pub badTypingPlace : (policy typing : List ℕ) → BadPlace
+badTypingPlace policy typing = placeOf policy typing (typingRefusalOf policy typing)
+
+unfoldable pub badTypingLine : (policy typing : List ℕ) → List ℕ
+badTypingLine policy typing = bytesAt policy typing (badTypingPlace policy typing)
+
+-- Where a part of one of the two texts begins: in that text, so many bytes behind its first. A place in memory is a block and an
+-- offset in it; those of the two texts' first bytes are given.
+unfoldable pub beginsAt : (policy evidence : ℕ × ℕ) → BadPlace → ℕ × ℕ
+beginsAt policy evidence place =
+    let text = cond (place .evidence) evidence policy in
+    (text .0, place .from + text .1)

@@ -26,12 +26,7 @@ use Rattle.places.specs.declared.Span.{Span}
 use Rattle.places.specs.declared.BadPlace.{BadPlace}
 use Rattle.typings.specs.TypingText.{Typed, readTyping, refusedTyping, answerOf as typingAnswer, typingRead}
 use Rattle.traces.specs.TraceText.{Traced, readTrace, refusedTrace, answerOf as traceAnswer, traceRead}
-use Rattle.places.specs.Place.{isTyping, told, refusedOver, refusalAfter, refusalOf, noSpan, spanOf, badSpan, badPlace, badLine}
-
--- the first line decides the kind
-pub typing-first : (text : List ℕ) {stop : ℕ} → Sought text 0 10 stop → sameBytes (part text 0 stop) (bytes "typing\t1") ≡ isTyping text
-unfolding isTyping
-typing-first text sought = ap (λ (k : ℕ). sameBytes (part text 0 k) (bytes "typing\t1")) (sought .first ∙ zero-add (indexOf 10 text))
+use Rattle.places.specs.Place.{isTyping, told, refusedOver, refusalAfter, refusalAs, noSpan, spanOf, badSpan, placeOf, bytesAt, beginsAt}
 
 -- the refusal that a reader's record has
 typing-told : (r : Reading Typed) → record { number = typingAnswer r .refusal; line = typingAnswer r .line } ≡ told r
@@ -44,36 +39,33 @@ unfolding traceAnswer refusedTrace told
 trace-told (read s) = refl
 trace-told (refused k n) = refl
 
-module _ (assigns revokes : ℕ) (roles users : List Name) (text : List ℕ) where
-  pub over-typing : {T : TypingRead} → isTyping text ≡ true → T ≡ typingRead roles text → record { number = T .refusal; line = T .line } ≡ refusedOver assigns revokes roles users text
+module _ (assigns revokes : ℕ) (roles users : List Name) (text : List ℕ) {typing : Bool} where
+  pub over-typing : {T : TypingRead} → typing ≡ true → T ≡ typingRead roles text → record { number = T .refusal; line = T .line } ≡ refusedOver typing assigns revokes roles users text
   unfolding refusedOver typingRead
-  over-typing is given =
-      (λ i. record { number = given i .refusal; line = given i .line }) ∙ typing-told (readTyping roles text)
-      ∙ sym (ap (λ (b : Bool). cond b (told (readTyping roles text)) (told (readTrace assigns revokes users text))) is)
+  over-typing is given = (λ i. record { number = given i .refusal; line = given i .line }) ∙ typing-told (readTyping roles text) ∙ rw is
 
-  pub over-trace : {T : TraceRead} → isTyping text ≡ false → T ≡ traceRead assigns revokes users text → record { number = T .refusal; line = T .line } ≡ refusedOver assigns revokes roles users text
+  pub over-trace : {T : TraceRead} → typing ≡ false → T ≡ traceRead assigns revokes users text → record { number = T .refusal; line = T .line } ≡ refusedOver typing assigns revokes roles users text
   unfolding refusedOver traceRead
-  over-trace is given =
-      (λ i. record { number = given i .refusal; line = given i .line }) ∙ trace-told (readTrace assigns revokes users text)
-      ∙ sym (ap (λ (b : Bool). cond b (told (readTyping roles text)) (told (readTrace assigns revokes users text))) is)
+  over-trace is given = (λ i. record { number = given i .refusal; line = given i .line }) ∙ trace-told (readTrace assigns revokes users text) ∙ rw is
 
--- a policy that is refused decides, and one that is read leaves it to the evidence
-pub after-refused : (policy evidence : List ℕ) {number line : ℕ} → readPolicy policy ≡ refused number line → record { number = number; line = line } ≡ refusalOf policy evidence
-unfolding refusalOf refusalAfter
-after-refused policy evidence is = sym (ap (λ (r : Reading Said). refusalAfter r evidence) is)
+module _ (typing : Bool) (policy evidence : List ℕ) where
+  -- a policy that is refused decides, and one that is read leaves it to the evidence
+  pub after-refused : {number line : ℕ} → readPolicy policy ≡ refused number line → record { number = number; line = line } ≡ refusalAs typing policy evidence
+  unfolding refusalAs refusalAfter
+  after-refused is = sym (ap (λ (r : Reading Said). refusalAfter r typing evidence) is)
 
-after-read : (policy evidence : List ℕ) {s : Said} → readPolicy policy ≡ read s → refusedOver (length (s .assigns)) (length (s .revokes)) (s .roles) (s .users) evidence ≡ refusalOf policy evidence
-unfolding refusalOf refusalAfter
-after-read policy evidence is = sym (ap (λ (r : Reading Said). refusalAfter r evidence) is)
+  pub after-read : {s : Said} → readPolicy policy ≡ read s → refusedOver typing (length (s .assigns)) (length (s .revokes)) (s .roles) (s .users) evidence ≡ refusalAs typing policy evidence
+  unfolding refusalAs refusalAfter
+  after-read is = sym (ap (λ (r : Reading Said). refusalAfter r typing evidence) is)
 
 -- the evidence over the records of a policy that is read
-pub over-told : {policy : List ℕ} {D : Directory} {R : Rules} → Told policy D R → (evidence : List ℕ)
-    → refusedOver (R .counts .assigns) (R .counts .revokes) (rows (R .counts .roles) (D .roles)) (rows (R .counts .users) (D .users)) evidence ≡ refusalOf policy evidence
+pub over-told : {policy : List ℕ} {D : Directory} {R : Rules} → Told policy D R → (typing : Bool) (evidence : List ℕ)
+    → refusedOver typing (R .counts .assigns) (R .counts .revokes) (rows (R .counts .roles) (D .roles)) (rows (R .counts .users) (D .users)) evidence ≡ refusalAs typing policy evidence
 unfolding countsOf
-over-told {policy} {D} {R} t evidence =
-    ap₂ (λ (rs us : List Name). refusedOver (R .counts .assigns) (R .counts .revokes) rs us evidence) (roles-laid (t .laid)) (users-laid (t .laid))
-    ∙ ap (λ (c : Counts). refusedOver (c .assigns) (c .revokes) (t .said .roles) (t .said .users) evidence) (counts-laid (t .laid))
-    ∙ after-read policy evidence (t .is)
+over-told {policy} {D} {R} t typing evidence =
+    ap₂ (λ (rs us : List Name). refusedOver typing (R .counts .assigns) (R .counts .revokes) rs us evidence) (roles-laid (t .laid)) (users-laid (t .laid))
+    ∙ ap (λ (c : Counts). refusedOver typing (c .assigns) (c .revokes) (t .said .roles) (t .said .users) evidence) (counts-laid (t .laid))
+    ∙ after-read typing policy evidence (t .is)
 
 -- ---- going from line to line
 
@@ -193,35 +185,42 @@ pub bad-evidence : (policy evidence : List ℕ) (r : Refusal) → (r .line ≡ 0
 unfolding badSpan
 bad-evidence policy evidence r some high = rw (ne-eqb (r .line) 0 some, le-ltb (r .number) 14 high)
 
-pub place-told : (policy evidence : List ℕ) {r : Refusal} {s : Span} → r ≡ refusalOf policy evidence → s ≡ badSpan policy evidence r
-    → record { evidence = s .found && leb 14 (r .number); from = s .from; to = s .to } ≡ badPlace policy evidence
-unfolding badPlace
-place-told policy evidence {r} {s} is span =
-    let same = span ∙ ap (badSpan policy evidence) is in
-    λ i. record { evidence = same i .found && leb 14 (is i .number); from = same i .from; to = same i .to }
+-- the place of a refusal
+module _ (policy evidence : List ℕ) (q : Refusal) where
+  pub place-told : {r : Refusal} {s : Span} → r ≡ q → s ≡ badSpan policy evidence r → record { evidence = s .found && leb 14 (r .number); from = s .from; to = s .to } ≡ placeOf policy evidence q
+  unfolding placeOf
+  place-told {r} {s} is span =
+      let same = span ∙ ap (badSpan policy evidence) is in
+      λ i. record { evidence = same i .found && leb 14 (is i .number); from = same i .from; to = same i .to }
 
--- where the place is in the evidence, and where in the policy
-pub evidence-inside : (policy evidence : List ℕ) {place : BadPlace} → place ≡ badPlace policy evidence → place .evidence ≡ true → (place .from ≤ place .to) × (place .to ≤ length evidence)
-unfolding badPlace
-evidence-inside policy evidence {place} is there =
-    let r = refusalOf policy evidence in
-    let here = span-evidence policy evidence r (and-eq-true-iff (badSpan policy evidence r .found) (leb 14 (r .number)) .0 (sym (ap (λ (q : BadPlace). q .evidence) is) ∙ there) .1) in
-    (omega (arith, ap (λ (q : BadPlace). q .from) is, ap (λ (q : BadPlace). q .to) is, here .ordered), omega (arith, ap (λ (q : BadPlace). q .to) is, here .within))
+  module _ {place : BadPlace} (is : place ≡ placeOf policy evidence q) where
+    -- it lies inside the text that it is told for
+    pub evidence-inside : place .evidence ≡ true → (place .from ≤ place .to) × (place .to ≤ length evidence)
+    unfolding placeOf
+    evidence-inside there =
+        let here = span-evidence policy evidence q (and-eq-true-iff (badSpan policy evidence q .found) (leb 14 (q .number)) .0 (sym (ap (λ (p : BadPlace). p .evidence) is) ∙ there) .1) in
+        (omega (arith, ap (λ (p : BadPlace). p .from) is, ap (λ (p : BadPlace). p .to) is, here .ordered), omega (arith, ap (λ (p : BadPlace). p .to) is, here .within))
 
-pub policy-inside : (policy evidence : List ℕ) {place : BadPlace} → place ≡ badPlace policy evidence → place .evidence ≡ false → (place .from ≤ place .to) × (place .to ≤ length policy)
-unfolding badPlace
-policy-inside policy evidence {place} is there =
-    let here = span-policy policy evidence (refusalOf policy evidence) (sym (ap (λ (q : BadPlace). q .evidence) is) ∙ there) in
-    (omega (arith, ap (λ (q : BadPlace). q .from) is, ap (λ (q : BadPlace). q .to) is, here .ordered), omega (arith, ap (λ (q : BadPlace). q .to) is, here .within))
+    pub policy-inside : place .evidence ≡ false → (place .from ≤ place .to) × (place .to ≤ length policy)
+    unfolding placeOf
+    policy-inside there =
+        let here = span-policy policy evidence q (sym (ap (λ (p : BadPlace). p .evidence) is) ∙ there) in
+        (omega (arith, ap (λ (p : BadPlace). p .from) is, ap (λ (p : BadPlace). p .to) is, here .ordered), omega (arith, ap (λ (p : BadPlace). p .to) is, here .within))
 
-pub line-evidence : (policy evidence : List ℕ) {place : BadPlace} → place ≡ badPlace policy evidence → place .evidence ≡ true → part evidence (place .from) (place .to) ≡ badLine policy evidence
-unfolding badLine
-line-evidence policy evidence {place} is there =
-    (λ i. part evidence (is i .from) (is i .to))
-    ∙ sym (ap (λ (b : Bool). cond b (part evidence (badPlace policy evidence .from) (badPlace policy evidence .to)) (part policy (badPlace policy evidence .from) (badPlace policy evidence .to))) (sym (ap (λ (q : BadPlace). q .evidence) is) ∙ there))
+    -- it does not end before it begins
+    pub place-ordered : place .from ≤ place .to
+    place-ordered = go (place .evidence) refl
+      where
+        go : (b : Bool) → place .evidence ≡ b → place .from ≤ place .to
+        go true there = evidence-inside there .0
+        go false there = policy-inside there .0
 
-pub line-policy : (policy evidence : List ℕ) {place : BadPlace} → place ≡ badPlace policy evidence → place .evidence ≡ false → part policy (place .from) (place .to) ≡ badLine policy evidence
-unfolding badLine
-line-policy policy evidence {place} is there =
-    (λ i. part policy (is i .from) (is i .to))
-    ∙ sym (ap (λ (b : Bool). cond b (part evidence (badPlace policy evidence .from) (badPlace policy evidence .to)) (part policy (badPlace policy evidence .from) (badPlace policy evidence .to))) (sym (ap (λ (q : BadPlace). q .evidence) is) ∙ there))
+-- the part of a text at a place: its bytes, and where it begins
+module _ (policy evidence : List ℕ) (P E : ℕ × ℕ) {place p : BadPlace} (is : place ≡ p) where
+  pub part-evidence : place .evidence ≡ true → (part evidence (place .from) (place .to) ≡ bytesAt policy evidence p) × ((E .0, place .from + E .1) ≡ beginsAt P E p)
+  unfolding beginsAt
+  part-evidence there = subst (λ (q : BadPlace). (part evidence (place .from) (place .to) ≡ bytesAt policy evidence q) × ((E .0, place .from + E .1) ≡ beginsAt P E q)) is (rw there, rw there)
+
+  pub part-policy : place .evidence ≡ false → (part policy (place .from) (place .to) ≡ bytesAt policy evidence p) × ((P .0, place .from + P .1) ≡ beginsAt P E p)
+  unfolding beginsAt
+  part-policy there = subst (λ (q : BadPlace). (part policy (place .from) (place .to) ≡ bytesAt policy evidence q) × ((P .0, place .from + P .1) ≡ beginsAt P E q)) is (rw there, rw there)

@@ -1,9 +1,10 @@
 // The refusal of two texts, found again, and the bad line as a part of one of them.
+ghost use denote.Ref.{ptr};
 ghost use mathlib.Core.Path.{_≡_};
 ghost use Prim.Native.Nat.{_*_, _-_, _≤_};
 ghost use lib.ListN.{length};
 ghost use Rattle.tables.specs.Names.{rows};
-ghost use Rattle.places.specs.Place.{isTyping, refusedOver, refusalOf, noSpan, spanOf, badSpan, badPlace, badLine};
+ghost use Rattle.places.specs.Place.{isTyping, refusedOver, refusalAs, noSpan, spanOf, badSpan, placeOf, bytesAt, badPlace, badLine, badTypingPlace, badTypingLine, beginsAt};
 use lines::Counts;
 use reading::directory::read_directory;
 use reading::policy::read_rules;
@@ -30,20 +31,28 @@ pub struct BadPlace {
     pub to: usize,
 }
 
-// Whether the first line is a typing's header.
+// Whether the first line is a typing's header: a look at the first nine bytes.
 pub fn is_typing(text: &[u8]) -> bool
     ensures { λ r. ⌜ r ≡ isTyping (now (text .entry)) ⌝ }
 {
-    let stop = text::seek(text, 0, b'\n');
-    text::same(&text[0..stop], b"typing\t1")
+    if text.len() < 9 {
+        return text::same(text, b"typing\t1");
+    }
+    text::same(&text[0..9], b"typing\t1\n")
 }
 
-// The refusal of a piece of evidence over the names and counts of a policy.
-pub fn evidence_refusal<'a>(text: &[u8], roles: &'a [u64], users: &'a [u64], c: Counts) -> Refusal
+// The refusal of a piece of evidence, read as a typing or as a trace, over the names and counts of a policy.
+fn evidence_refusal<'a>(
+    text: &[u8],
+    typing: bool,
+    roles: &'a [u64],
+    users: &'a [u64],
+    c: Counts,
+) -> Refusal
     requires { ⌜ (4 * c .roles ≤ length (now roles)) × (c .roles ≤ 128) × (4 * c .users ≤ length (now users)) ⌝ }
-    ensures { λ r. ⌜ r ≡ refusedOver (c .assigns) (c .revokes) (rows (c .roles) (now (roles .entry))) (rows (c .users) (now (users .entry))) (now (text .entry)) ⌝ }
+    ensures { λ r. ⌜ r ≡ refusedOver typing (c .assigns) (c .revokes) (rows (c .roles) (now (roles .entry))) (rows (c .users) (now (users .entry))) (now (text .entry)) ⌝ }
 {
-    if is_typing(text) {
+    if typing {
         let t = read_typing(text, roles, c.roles);
         return Refusal {
             number: t.refusal,
@@ -57,9 +66,9 @@ pub fn evidence_refusal<'a>(text: &[u8], roles: &'a [u64], users: &'a [u64], c: 
     }
 }
 
-// The refusal of a policy and a piece of evidence.
-pub fn refusal_of(policy: &[u8], evidence: &[u8]) -> Refusal
-    ensures { λ r. ⌜ r ≡ refusalOf (now (policy .entry)) (now (evidence .entry)) ⌝ }
+// The refusal of a policy and a piece of evidence, read as a typing or as a trace.
+fn refusal_as(policy: &[u8], evidence: &[u8], typing: bool) -> Refusal
+    ensures { λ r. ⌜ r ≡ refusalAs typing (now (policy .entry)) (now (evidence .entry)) ⌝ }
 {
     let d = read_directory(policy);
     if d.refusal != 0 {
@@ -75,7 +84,7 @@ pub fn refusal_of(policy: &[u8], evidence: &[u8]) -> Refusal
             line: r.line,
         };
     }
-    evidence_refusal(evidence, &d.roles, &d.users, r.counts)
+    evidence_refusal(evidence, typing, &d.roles, &d.users, r.counts)
 }
 
 // No line.
@@ -129,10 +138,10 @@ fn bad_span(policy: &[u8], evidence: &[u8], r: Refusal) -> Span
 }
 
 // Which text the bad line stands in, and where: nowhere, at the policy's start, where no line is bad.
-pub fn bad_place(policy: &[u8], evidence: &[u8]) -> BadPlace
-    ensures { λ r. ⌜ r ≡ badPlace (now (policy .entry)) (now (evidence .entry)) ⌝ }
+fn place_as(policy: &[u8], evidence: &[u8], typing: bool) -> BadPlace
+    ensures { λ r. ⌜ r ≡ placeOf (now (policy .entry)) (now (evidence .entry)) (refusalAs typing (now (policy .entry)) (now (evidence .entry))) ⌝ }
 {
-    let r = refusal_of(policy, evidence);
+    let r = refusal_as(policy, evidence, typing);
     let s = bad_span(policy, evidence, r);
     BadPlace {
         evidence: s.found & (14 <= r.number),
@@ -141,15 +150,46 @@ pub fn bad_place(policy: &[u8], evidence: &[u8]) -> BadPlace
     }
 }
 
-// The bad line, without its LF, as a part of the caller's own bytes: the empty part at the policy's start where no line is bad.
-pub fn bad_line<'a>(policy: &'a [u8], evidence: &'a [u8]) -> &'a [u8]
-    ensures { λ r. ⌜ now r ≡ badLine (now (policy .entry)) (now (evidence .entry)) ⌝ }
+// The place of the bad line of a policy and a piece of evidence.
+pub fn bad_place(policy: &[u8], evidence: &[u8]) -> BadPlace
+    ensures { λ r. ⌜ r ≡ badPlace (now (policy .entry)) (now (evidence .entry)) ⌝ }
 {
-    let place = bad_place(policy, evidence);
+    place_as(policy, evidence, is_typing(evidence))
+}
+
+// The place of the bad line of a policy and a text where a typing is wanted.
+pub fn bad_typing_place(policy: &[u8], typing: &[u8]) -> BadPlace
+    ensures { λ r. ⌜ r ≡ badTypingPlace (now (policy .entry)) (now (typing .entry)) ⌝ }
+{
+    place_as(policy, typing, true)
+}
+
+// The part of one of two texts at the place of their bad line.
+fn line_as<'a>(policy: &'a [u8], evidence: &'a [u8], typing: bool) -> &'a [u8]
+    ensures { λ r. ⌜ now r ≡ bytesAt (now (policy .entry)) (now (evidence .entry)) (placeOf (now (policy .entry)) (now (evidence .entry)) (refusalAs typing (now (policy .entry)) (now (evidence .entry)))) ⌝ }
+    ensures { λ r. ⌜ ptr r ≡ beginsAt (ptr (policy .entry)) (ptr (evidence .entry)) (placeOf (now (policy .entry)) (now (evidence .entry)) (refusalAs typing (now (policy .entry)) (now (evidence .entry)))) ⌝ }
+{
+    let place = place_as(policy, evidence, typing);
     let from = place.from;
     let to = place.to;
     if place.evidence {
         return &evidence[from..to];
     }
     &policy[from..to]
+}
+
+// The bad line, without its LF, as a part of the caller's own bytes: the empty part at the policy's start where no line is bad.
+pub fn bad_line<'a>(policy: &'a [u8], evidence: &'a [u8]) -> &'a [u8]
+    ensures { λ r. ⌜ now r ≡ badLine (now (policy .entry)) (now (evidence .entry)) ⌝ }
+    ensures { λ r. ⌜ ptr r ≡ beginsAt (ptr (policy .entry)) (ptr (evidence .entry)) (badPlace (now (policy .entry)) (now (evidence .entry))) ⌝ }
+{
+    line_as(policy, evidence, is_typing(evidence))
+}
+
+// The same of a text where a typing is wanted.
+pub fn bad_typing_line<'a>(policy: &'a [u8], typing: &'a [u8]) -> &'a [u8]
+    ensures { λ r. ⌜ now r ≡ badTypingLine (now (policy .entry)) (now (typing .entry)) ⌝ }
+    ensures { λ r. ⌜ ptr r ≡ beginsAt (ptr (policy .entry)) (ptr (typing .entry)) (badTypingPlace (now (policy .entry)) (now (typing .entry))) ⌝ }
+{
+    line_as(policy, typing, true)
 }

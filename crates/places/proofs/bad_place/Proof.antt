@@ -1,17 +1,16 @@
--- `bad_place` is the span of the refusal, in its text.
+-- `bad_place` is the place with the kind that the first line says.
 use borrow.Author.Needs.{needs}
-use Rattle.places.specs.PlaceLaws.{place-told}
 use Rattle.places.proofs.bad_place.Statement.{statement}
 use Rattle.places.proofs.bad_place.Tie as tie
 
-refusal-of-requires : tie.Need-refusal-of-requires
-refusal-of-requires c κs = search needs
+is-typing-requires : tie.Need-is-typing-requires
+is-typing-requires c κs = search needs
 
-bad-span-requires : tie.Need-bad-span-requires
-bad-span-requires c κs = search needs
+place-as-requires : tie.Need-place-as-requires
+place-as-requires c κs = search needs
 
 returns : tie.Need-returns
-returns c = place-told _ _ (c .before .before .before .refusal-of .ensures) (c .before .before .bad-span .ensures)
+returns c = rw (c .before .is-typing .ensures) at (c .place-as .ensures)
 
 pub bad-place-spec : {M : Type 1} → statement M
-bad-place-spec = tie.close (tie.spec refusal-of-requires bad-span-requires returns)
+bad-place-spec = tie.close (tie.spec is-typing-requires place-as-requires returns)

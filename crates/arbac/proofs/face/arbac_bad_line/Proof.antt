@@ -1,6 +1,7 @@
 -- `arbac_bad_line` leaves a short array alone, and tells the place in any other; a line does not end before it begins.
+use Rattle.places.specs.PlaceLaws.{place-ordered}
 use Rattle.telling.specs.Numbers.{placeText, placeValues}
-use Rattle.arbac.specs.FaceLaws.{bad-ordered, told-as, no-room, with-room}
+use Rattle.arbac.specs.FaceLaws.{told-as, no-room, with-room}
 use borrow.Author.Needs.{needs}
 use Rattle.arbac.proofs.face.arbac_bad_line.Statement.{statement}
 use Rattle.arbac.proofs.face.arbac_bad_line.Tie as tie
@@ -12,7 +13,7 @@ bad-place-requires : tie.Need-bad-place-requires
 bad-place-requires c κs = search needs
 
 tell-place-requires : tie.Need-tell-place-requires
-tell-place-requires c κs = (c .before .before .if1 .left, bad-ordered _ _ (c .bad-place .ensures))
+tell-place-requires c κs = (c .before .before .if1 .left, place-ordered _ _ _ (c .bad-place .ensures))
 
 same-length : tie.Need-same-length
 same-length c = search needs

@@ -1,16 +1,16 @@
--- `refusal_of` reads the policy's directory, then its rules, and where both are read, the evidence over them.
+-- `refusal_as` reads the policy's directory, then its rules, and where both are read, the evidence over them.
 use borrow.Author.Needs.{needs}
 use mathlib.Core.Path.{_∙_}
 use Rattle.places.specs.PlaceLaws.{after-refused, over-told}
 use Rattle.reading.specs.Told.{Told, directory-untold, directory-told, opened, rules-untold, told, tables-laid}
-use Rattle.places.proofs.refusal_of.Statement.{statement}
-use Rattle.places.proofs.refusal_of.Tie as tie
+use Rattle.places.proofs.refusal_as.Statement.{statement}
+use Rattle.places.proofs.refusal_as.Tie as tie
 
 read-directory-requires : tie.Need-read-directory-requires
 read-directory-requires c κs = search needs
 
 returns : tie.Need-returns
-returns c = after-refused _ _ (directory-untold _ (c .before .read-directory .ensures) (c .if1 .taken))
+returns c = after-refused _ _ _ (directory-untold _ (c .before .read-directory .ensures) (c .if1 .taken))
 
 read-rules-requires : tie.Need-read-rules-requires
 read-rules-requires c κs =
@@ -18,7 +18,7 @@ read-rules-requires c κs =
     opened (directory-told (read .before .before .before .before .args .policy .now) (read .before .read-directory .ensures) (read .if1 .left))
 
 returns-2 : tie.Need-returns-2
-returns-2 c = after-refused _ _ (rules-untold _ (c .before .before .read-rules .ensures) (c .if2 .taken))
+returns-2 c = after-refused _ _ _ (rules-untold _ (c .before .before .read-rules .ensures) (c .if2 .taken))
 
 -- where the rules are read
 policy-told : (c : tie.Else2) → Told (c .before .before .before .before .before .before .before .before .before .before .before .before .before .args .policy .now) (c .before .before .before .before .before .before .before .before .before .before .read-directory .result) (c .before .before .read-rules .result)
@@ -30,10 +30,10 @@ evidence-refusal-requires : tie.Need-evidence-refusal-requires
 evidence-refusal-requires c κs = tables-laid (policy-told (c .before .before .before .before .before) .laid)
 
 returns-3 : tie.Need-returns-3
-returns-3 c = c .evidence-refusal .ensures ∙ over-told (policy-told (c .before .before .before .before .before .before)) _
+returns-3 c = c .evidence-refusal .ensures ∙ over-told (policy-told (c .before .before .before .before .before .before)) _ _
 
-pub refusal-of-spec : {M : Type 1} → statement M
-refusal-of-spec =
+pub refusal-as-spec : {M : Type 1} → statement M
+refusal-as-spec =
     tie.close
     (tie.spec
     read-directory-requires
