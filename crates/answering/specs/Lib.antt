@@ -2,5 +2,10 @@
 pub mod Answers
 pub mod Named
 pub mod Laws
+pub mod CheckRules
+pub mod Kinds
+pub mod Outcomes
 pub mod Exact
+pub mod Means
+pub mod Refusals
 pub mod Worked

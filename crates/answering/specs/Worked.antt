@@ -1,5 +1,6 @@
 -- Document 01's worked cases from their raw texts: P1 to P10, P12 with its two typings, each alone and merged, and P13.
 use Prim.Native.Nat.{ℕ}
+use Prim.Native.String.{String}
 use mathlib.Core.List.{List, [], _∷_, _++_, map}
 use mathlib.Core.Path.{_≡_, refl}
 use lib.Count.{ones}
@@ -87,40 +88,36 @@ policy-a = guard (guard-assigns ++ bytes "goal\tx,y\n")
 abbrev policy-b : List ℕ
 policy-b = guard (bytes "revoke\tadm\tz\ngoal\tadm\n")
 
--- each case, and below it its number and values: parts are numbered from 1, holdings first, and so are users
-pub worked-cases :
-    map told
-    ((checks strict (t1 (bytes "-") (bytes "L")))
-    ∷ (checks strict (bytes "typing\t1\nadm\tL\t-\t-\npay\tL\t-\t-\nbuy\tL\t-\t-\nend\n"))
-    ∷ (checks strict (t1 (bytes "-") (bytes "H")))
-    ∷ (checks strict (t1 (bytes "adm") (bytes "L")))
-    ∷ (checks loose (t1 (bytes "-") (bytes "L")))
-    ∷ (checks loose (two-steps (bytes "2") (bytes "1")))
-    ∷ (checks loose (two-steps (bytes "1") (bytes "2")))
-    ∷ (checks loose (two-steps (bytes "1") (bytes "1")))
-    ∷ (checks loose (bytes "trace\t1\nend\n"))
-    ∷ (checks (desk (bytes "H") (bytes "-")) (two-steps (bytes "2") (bytes "1")))
-    ∷ (checks policy-a typing-a)
-    ∷ (checks policy-b typing-b)
-    ∷ (merges policy-a typing-a policy-b typing-b)
-    ∷ (checks
-    (guard (guard-assigns ++ bytes "revoke\tadm\tz\ngoal\tx,y\ngoal\tadm\n"))
-    (bytes "trace\t1\nassign\tann\t3\tbob\nassign\tann\t1\tbob\nrevoke\tann\t1\tbob\nassign\tann\t2\tbob\nend\n"))
-    ∷ [])
-    ≡ ((0 ∷ 3 ∷ 2 ∷ 0 ∷ 1 ∷ 2 ∷ [])
-    ∷ (2 ∷ 4 ∷ 1 ∷ [])
-    ∷ (2 ∷ 2 ∷ 1 ∷ [])
-    ∷ (2 ∷ 1 ∷ 1 ∷ [])
-    ∷ (2 ∷ 2 ∷ 1 ∷ [])
-    ∷ (1 ∷ 2 ∷ 2 ∷ 1 ∷ [])
-    ∷ (3 ∷ 2 ∷ [])
-    ∷ (3 ∷ 2 ∷ [])
-    ∷ (4 ∷ 0 ∷ [])
-    ∷ (4 ∷ 2 ∷ [])
-    ∷ (0 ∷ 4 ∷ 3 ∷ 0 ∷ 1 ∷ 3 ∷ [])
-    ∷ (0 ∷ 4 ∷ 0 ∷ 1 ∷ 1 ∷ 0 ∷ [])
-    ∷ (2 ∷ 3 ∷ 3 ∷ 1 ∷ [])
-    ∷ (1 ∷ 4 ∷ 2 ∷ 1 ∷ [])
-    ∷ [])
+-- A row: the case's name, what is asked, and document 01's number of the answer with its values. Parts are numbered from 1, holdings
+-- first, and so are users.
+pub record Row : Type 0 where
+  pub name : String
+  pub asked : Case
+  pub answer : List ℕ
+
+abbrev pub rows : List Row
+rows =
+    (record { name = "P1"; asked = checks strict (t1 (bytes "-") (bytes "L")); answer = 0 ∷ 3 ∷ 2 ∷ 0 ∷ 1 ∷ 2 ∷ [] })
+    ∷ (record { name = "P2"; asked = checks strict (bytes "typing\t1\nadm\tL\t-\t-\npay\tL\t-\t-\nbuy\tL\t-\t-\nend\n"); answer = 2 ∷ 4 ∷ 1 ∷ [] })
+    ∷ (record { name = "P3"; asked = checks strict (t1 (bytes "-") (bytes "H")); answer = 2 ∷ 2 ∷ 1 ∷ [] })
+    ∷ (record { name = "P4"; asked = checks strict (t1 (bytes "adm") (bytes "L")); answer = 2 ∷ 1 ∷ 1 ∷ [] })
+    ∷ (record { name = "P5"; asked = checks loose (t1 (bytes "-") (bytes "L")); answer = 2 ∷ 2 ∷ 1 ∷ [] })
+    ∷ (record { name = "P6"; asked = checks loose (two-steps (bytes "2") (bytes "1")); answer = 1 ∷ 2 ∷ 2 ∷ 1 ∷ [] })
+    ∷ (record { name = "P7"; asked = checks loose (two-steps (bytes "1") (bytes "2")); answer = 3 ∷ 2 ∷ [] })
+    ∷ (record { name = "P8"; asked = checks loose (two-steps (bytes "1") (bytes "1")); answer = 3 ∷ 2 ∷ [] })
+    ∷ (record { name = "P9"; asked = checks loose (bytes "trace\t1\nend\n"); answer = 4 ∷ 0 ∷ [] })
+    ∷ (record { name = "P10"; asked = checks (desk (bytes "H") (bytes "-")) (two-steps (bytes "2") (bytes "1")); answer = 4 ∷ 2 ∷ [] })
+    ∷ (record { name = "P12, A alone"; asked = checks policy-a typing-a; answer = 0 ∷ 4 ∷ 3 ∷ 0 ∷ 1 ∷ 3 ∷ [] })
+    ∷ (record { name = "P12, B alone"; asked = checks policy-b typing-b; answer = 0 ∷ 4 ∷ 0 ∷ 1 ∷ 1 ∷ 0 ∷ [] })
+    ∷ (record { name = "P12"; asked = merges policy-a typing-a policy-b typing-b; answer = 2 ∷ 3 ∷ 3 ∷ 1 ∷ [] })
+    ∷ (record {
+      name = "P13";
+      asked = checks (guard (guard-assigns ++ bytes "revoke\tadm\tz\ngoal\tx,y\ngoal\tadm\n")) (bytes "trace\t1\nassign\tann\t3\tbob\nassign\tann\t1\tbob\nrevoke\tann\t1\tbob\nassign\tann\t2\tbob\nend\n");
+      answer = 1 ∷ 4 ∷ 2 ∷ 1 ∷ [];
+    })
+    ∷ []
+
+-- Each row is answered so. P11 is a law by itself (`own-target-passes`).
+pub worked-cases : map (λ (r : Row). told (r .asked)) rows ≡ map (λ (r : Row). r .answer) rows
 unfolding reading judging padded indexOf revoked isNumber decimal first firstFrom numberOf turnOf typing.oneField typing.twoFields typing.lineOf typing.wellFormed typing.named typing.entry typing.answerTo typing.judged typing.typingLine typings.untyped typings.added typings.answered typings.judgeLine typings.readTyping typings.tableOf trace.fourFields trace.oneField trace.twoFields trace.lineOf trace.isStep trace.stepNamed trace.wellFormed trace.named trace.entry trace.answerTo trace.judged trace.traceLine traces.untraced traces.added traces.answered traces.judgeLine traces.readTrace isTyping mayAssign mayRevoke withTarget withoutTarget lowestGoal ownGoal badPerson goalOf firstBad assignAt revokeAt possible after later runOf lastVerdict ranVerdict readVerdict traceVerdict judgedAnswer typingAnswer traceAnswer evidenceAnswer answerAfter answerOf rulesVerdict sameName sameLists sameLabel samePerson sameDirectory whenRead answerIn whenSame whenAccepted mergeJudged mergeOutcome told
 worked-cases = refl

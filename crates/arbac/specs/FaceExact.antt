@@ -27,7 +27,7 @@ use Rattle.answering.specs.Answers.{numberOf, answerOf, nameAt}
 use Rattle.printing.specs.Line.{field, partText, lineOf, checkLine}
 use Rattle.telling.specs.Numbers.{placeText}
 use Rattle.arbac.specs.Face.{noRoom, roomFor, toldNumber, toldIn}
-use Rattle.arbac.specs.FaceNumbers.{Safe, safe, Summed, summed, Merged, merged, check-numbered, sum-numbered, merge-numbered}
+use Rattle.arbac.specs.FaceNumbers.{IsSafe, safe, IsSummed, summed, IsMerged, merged, check-numbered, sum-numbered, merge-numbered}
 
 -- ---- the number that is answered
 
@@ -53,28 +53,28 @@ told-so {number} {Success} width array listed zero = go (leb width (length array
         record { none-told = (λ none. short, λ less. refl); zero-told = (λ is. absurd (omega (arith, is)), λ told. absurd (omega (arith, short, told .0))) }
 
 -- the number of a success
-safe-zero : {answer : Answer} → Safe answer → numberOf answer ≡ 0
+safe-zero : {answer : Answer} → IsSafe answer → numberOf answer ≡ 0
 safe-zero (safe roles assigns revokes goals pinned) = refl
 
-summed-zero : {answer : SumAnswer} → Summed answer → sum.numberOf answer ≡ 0
+summed-zero : {answer : SumAnswer} → IsSummed answer → sum.numberOf answer ≡ 0
 summed-zero (summed pinned written) = refl
 
-merged-zero : {answer : MergeAnswer} → Merged answer → merge.numberOf answer ≡ 0
+merged-zero : {answer : MergeAnswer} → IsMerged answer → merge.numberOf answer ≡ 0
 merged-zero (merged roles assigns revokes goals pinned written) = refl
 
 -- `arbac_check` answers 0 only where the answer is SAFE,
-pub check-told : (policy evidence array : List ℕ) → let answer = answerOf policy evidence in Answered 5 array (Safe answer) (toldNumber 5 (numberOf answer) array)
+pub check-told : (policy evidence array : List ℕ) → let answer = answerOf policy evidence in Answered 5 array (IsSafe answer) (toldNumber 5 (numberOf answer) array)
 check-told policy evidence array =
     let n = check-numbered policy evidence in
     told-so 5 array (n .listed) (n .zero-only, safe-zero)
 
 -- `arbac_sum` and `arbac_merge` where the sum is written,
-pub sum-told : (policy first second : List ℕ) (room : ℕ) (array : List ℕ) → let answer = answerIn (sum.sumOutcome policy first second room) in Answered 2 array (Summed answer) (toldNumber 2 (sum.numberOf answer) array)
+pub sum-told : (policy first second : List ℕ) (room : ℕ) (array : List ℕ) → let answer = answerIn (sum.sumOutcome policy first second room) in Answered 2 array (IsSummed answer) (toldNumber 2 (sum.numberOf answer) array)
 sum-told policy first second room array =
     let n = sum-numbered policy first second room in
     told-so 2 array (n .listed) (n .zero-only, summed-zero)
 
-pub merge-told : (policy₁ typing₁ policy₂ typing₂ : List ℕ) (room : ℕ) (array : List ℕ) → let answer = answerIn (merge.mergeOutcome policy₁ typing₁ policy₂ typing₂ room) in Answered 6 array (Merged answer) (toldNumber 6 (merge.numberOf answer) array)
+pub merge-told : (policy₁ typing₁ policy₂ typing₂ : List ℕ) (room : ℕ) (array : List ℕ) → let answer = answerIn (merge.mergeOutcome policy₁ typing₁ policy₂ typing₂ room) in Answered 6 array (IsMerged answer) (toldNumber 6 (merge.numberOf answer) array)
 merge-told policy₁ typing₁ policy₂ typing₂ room array =
     let n = merge-numbered policy₁ typing₁ policy₂ typing₂ room in
     told-so 6 array (n .listed) (n .zero-only, merged-zero)
@@ -90,7 +90,7 @@ bad-line-told place array = go (place .evidence)
 
 -- ---- the values that are told
 
--- An array with room begins with all the values: none of them is as it was by not being told.
+-- An array with room begins with all the values, whatever stood there before.
 pub told-values : {width : ℕ} (values array : List ℕ) → length values ≡ width → width ≤ length array → take width (toldIn width values array) ≡ values
 unfolding toldIn roomFor
 told-values {width} values array all room =

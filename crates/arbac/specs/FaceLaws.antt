@@ -9,9 +9,8 @@ use native.Mathlib.Omega.{arith}
 use Rattle.model.specs.Policy.{State, Run, Present}
 use Rattle.model.specs.Policy as model
 use Rattle.model.specs.States.{present-back}
-use Rattle.reading.specs.Policy.{policyOf}
 use Rattle.reading.specs.Kept.{read-bounded}
-use Rattle.steps.specs.Exact.{ran-run}
+use Rattle.following.specs.Exact.{follows-run}
 use Rattle.writing.specs.Written.{put}
 use Rattle.summing.specs.Outcome.{Outcome, answerIn, bufferAfter, Meets}
 use Rattle.answering.specs.declared.Answer.{Answer}
@@ -31,7 +30,6 @@ present-first (model.next run (model.assign listed can)) here = present-first ru
 present-first (model.next run (model.revoke listed can)) here = present-first run (present-back _ _ _ here)
 
 pub user-listed : (policy evidence : List ℕ) {answer : Answer} → answer ≡ answerOf policy evidence → UserListed answer
-unfolding policyOf
 user-listed policy evidence is = record { below = λ steps user goal attacked. go steps user goal (sym is ∙ attacked) }
   where
     go : (steps user goal : ℕ) → answerOf policy evidence ≡ Answer.Attacked steps user goal → user < 64
@@ -39,7 +37,7 @@ user-listed policy evidence is = record { below = λ steps user goal attacked. g
         let texts = attacked-exact policy evidence steps user goal .0 attacked in
         let found = texts .holds .first in
         let bounded = read-bounded policy (texts .said) (texts .reads) in
-        omega (arith, present-first (ran-run (policyOf (texts .said)) (texts .holds .trace .steps) (texts .holds .runs)) (found .present) .listed, found .user-number, bounded .users, bounded .holdings)
+        omega (arith, present-first (follows-run (texts .holds .follows)) (found .present) .listed, found .user-number, bounded .users, bounded .holdings)
 
 -- ---- told in a lent array
 

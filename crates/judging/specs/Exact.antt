@@ -12,10 +12,9 @@ use Rattle.model.specs.declared.Typing.{Typing as Table}
 use Rattle.model.specs.declared.Assign.{Assign}
 use Rattle.model.specs.declared.Revoke.{Revoke}
 use Rattle.model.specs.declared.Person.{Person}
-use Rattle.model.specs.Policy.{Policy, State, nobody, person, Run, Bad}
+use Rattle.model.specs.Policy.{Policy, State, nobody, person}
 use Rattle.model.specs.Typing.{Typing, closure, AssignPasses, RevokePasses, WellTyped, HoldingsPass, GoalPasses, RulesPass, Accepted}
 use Rattle.model.specs.Meaning.{meaning}
-use Rattle.model.specs.Safety.{accepted-safe}
 use Rattle.sheets.specs.Turned.{turnedOf}
 use Rattle.rules.specs.Tests.{personPasses, assignPasses, revokePasses, goalPasses}
 use Rattle.rules.specs.Exact.{Laid, SizedRule, person-exact, assign-exact, revoke-exact, goal-exact}
@@ -113,10 +112,6 @@ module _ {s : Said} {t : Table} (sized : SizedPolicy s) (laid : Laid t (length (
         },
         λ accepted. all .1 (holdings-accepted .1 (accepted .holdings), later-parts .1 (rules-accepted .1 (accepted .rules), goals-accepted .1 (λ goal m. accepted .goals m))),
       )
-
-  -- Where the verdict is accepted, no run from the initial holdings reaches a bad state.
-  pub typing-safe : typingVerdict s t ≡ TypingVerdict.Accepted → {τ : State} → Run (policyOf s) (s .holdings) τ → Bad (policyOf s .goals) τ → ⊥
-  typing-safe e run bad = accepted-safe (typing-accepted .0 e) run bad
 
   -- ---- the first failure
 

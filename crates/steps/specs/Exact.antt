@@ -1,23 +1,22 @@
--- A step is possible exactly when it is a step of the policy; a trace runs exactly where the policy does, and is broken at its first step that is not possible.
+-- A step is possible exactly when its rule can be used so; a trace is broken at its first step that is not possible.
 use Prim.Native.Nat.{ℕ, suc, _<_}
 use borrow.Author.Tests.{ltb-true, lt-ltb}
 use mathlib.Core.Bool.{Bool, true, false, not, _&&_, and-eq-true-iff}
 use mathlib.Core.List.{List, [], _∷_, _++_, append-assoc, List·Memᴰ as Listed}
 use mathlib.Core.Logic.{_↔_}
-use mathlib.Core.Path.{_≡_, refl, sym, ap, ap₂, subst, _∙_}
+use mathlib.Core.Path.{_≡_, refl, sym, ap, ap₂, _∙_}
 use lib.ListN.{length}
-use Rattle.roles.specs.Sets.{emptySet}
 use Rattle.roles.specs.Members.{includes-within, within-includes, shares-share, share-shares}
 use Rattle.model.specs.declared.Assign.{Assign}
 use Rattle.model.specs.declared.Revoke.{Revoke}
-use Rattle.model.specs.Policy.{Policy, State, person, Present, CanAssign, CanRevoke, granted, revoked, Step, Run}
+use Rattle.model.specs.Policy.{State, person, Present, CanAssign, CanRevoke}
 use Rattle.rules.specs.Joined.{not-exact}
 use Rattle.rules.specs.Exact.{SizedRule}
 use Rattle.steps.specs.declared.Step.{Step as TraceStep}
-use Rattle.steps.specs.Places.{at-listed, listed-at}
+use Rattle.steps.specs.Places.{at-listed}
 use Rattle.steps.specs.Tests.{mayAssign, mayRevoke}
 use Rattle.steps.specs.Traces.{assignAt, revokeAt, possible, after, broken, ran, later, runOf}
-use Rattle.steps.specs.Runs.{ran-same, broken-same, broken-ran, later-ran, later-broken, run-on, run-off, run-more, run-breaks}
+use Rattle.steps.specs.Runs.{broken-same, broken-ran, later-broken, run-on, run-off, run-breaks}
 
 -- The sets of every assign rule are words of 64 bits, as those of every rule that a program holds.
 pub record SizedRules (assigns : List Assign) : Type 0 where
@@ -80,17 +79,15 @@ module _ (σ : State) (actor user : ℕ) where
 
 module _ (assigns : List Assign) (revokes : List Revoke) (σ : State) (actor rule user : ℕ) where
   -- An assign step is possible exactly when its rule is one of the list and the actor can use it on the user.
-  assign-told : possible assigns revokes σ (TraceStep.Assign actor rule user) ≡ true → (rule < length assigns) × CanAssign σ actor (assignAt assigns rule) user
-  unfolding possible
-  assign-told e =
-      let (inside, actor-listed, user-listed, may) = four _ _ _ _ .0 e in
-      (ltb-true _ _ inside, may-can σ actor user (record { listed = ltb-true _ _ actor-listed }) (record { listed = ltb-true _ _ user-listed }) may)
-
-  pub assign-possible : SizedRule (assignAt assigns rule) → possible assigns revokes σ (TraceStep.Assign actor rule user) ≡ true ↔ ((rule < length assigns) × CanAssign σ actor (assignAt assigns rule) user)
-  unfolding possible
-  assign-possible sized = (
-    assign-told,
-    λ (inside, can). four _ _ _ _ .1 (lt-ltb _ _ inside, lt-ltb _ _ (can .actor-present .listed), lt-ltb _ _ (can .user-present .listed), can-may σ actor user sized can),
+  pub assign-possible : SizedRules assigns → possible assigns revokes σ (TraceStep.Assign actor rule user) ≡ true ↔ ((rule < length assigns) × CanAssign σ actor (assignAt assigns rule) user)
+  unfolding possible assignAt
+  assign-possible sizes = (
+    λ e.
+        let (inside, actor-listed, user-listed, may) = four _ _ _ _ .0 e in
+        (ltb-true _ _ inside, may-can σ actor user (record { listed = ltb-true _ _ actor-listed }) (record { listed = ltb-true _ _ user-listed }) may),
+    λ (inside, can).
+        four _ _ _ _ .1
+        (lt-ltb _ _ inside, lt-ltb _ _ (can .actor-present .listed), lt-ltb _ _ (can .user-present .listed), can-may σ actor user (sizes .sized (at-listed _ assigns rule inside)) can),
   )
 
   -- A revoke step likewise.
@@ -102,77 +99,6 @@ module _ (assigns : List Assign) (revokes : List Revoke) (σ : State) (actor rul
         (ltb-true _ _ inside, may-can-revoke σ actor user (record { listed = ltb-true _ _ actor-listed }) (record { listed = ltb-true _ _ user-listed }) may),
     λ (inside, can). four _ _ _ _ .1 (lt-ltb _ _ inside, lt-ltb _ _ (can .actor-present .listed), lt-ltb _ _ (can .user-present .listed), can-may-revoke σ actor user can),
   )
-
--- A possible step is a step of every policy with those lists.
-pub possible-step : (P : Policy) (σ : State) (step : TraceStep) → possible (P .assigns) (P .revokes) σ step ≡ true → Step P σ (after (P .assigns) (P .revokes) σ step)
-unfolding assignAt revokeAt after
-possible-step P σ (TraceStep.Assign actor rule user) e =
-    let (inside, can) = assign-told (P .assigns) (P .revokes) σ actor rule user e in
-    Step.assign (at-listed _ (P .assigns) rule inside) can
-possible-step P σ (TraceStep.Revoke actor rule user) e =
-    let (inside, can) = revoke-possible (P .assigns) (P .revokes) σ actor rule user .0 e in
-    Step.revoke (at-listed _ (P .revokes) rule inside) can
-
--- A possible step that leads from one state to another.
-pub record Stepped (P : Policy) (σ τ : State) : Type 0 where
-  pub step : TraceStep
-  pub is-possible : possible (P .assigns) (P .revokes) σ step ≡ true
-  pub leads : after (P .assigns) (P .revokes) σ step ≡ τ
-
-step-possible : {P : Policy} {σ τ : State} → SizedRules (P .assigns) → Step P σ τ → Stepped P σ τ
-unfolding assignAt revokeAt after
-step-possible {P} {σ} sizes (Step.assign {rule = rule} {actor = actor} {user = user} listed can) =
-    let at = listed-at (record { admin = 0; positive = emptySet; negative = emptySet; target = 0 }) listed in
-    record {
-      step = TraceStep.Assign actor (at .place) user;
-      is-possible = assign-possible (P .assigns) (P .revokes) σ actor (at .place) user (sizes .sized (at-listed _ (P .assigns) (at .place) (at .inside))) .1 (at .inside, rw (at .stands) can);
-      leads = ap (λ (r : Assign). granted σ user (r .target)) (at .stands);
-    }
-step-possible {P} {σ} sizes (Step.revoke {rule = rule} {actor = actor} {user = user} listed can) =
-    let at = listed-at (record { admin = 0; target = 0 }) listed in
-    record {
-      step = TraceStep.Revoke actor (at .place) user;
-      is-possible = revoke-possible (P .assigns) (P .revokes) σ actor (at .place) user .1 (at .inside, rw (at .stands) can);
-      leads = ap (λ (r : Revoke). revoked σ user (r .target)) (at .stands);
-    }
-
--- The steps of a policy are exactly the possible steps.
-pub step-exact : {P : Policy} {σ τ : State} → SizedRules (P .assigns) → Step P σ τ ↔ Stepped P σ τ
-step-exact {P} {σ} sizes = (step-possible sizes, λ stepped. subst (Step P σ) (stepped .leads) (possible-step P σ (stepped .step) (stepped .is-possible)))
-
--- ---- a run
-
--- A list of possible steps that leads from one state to another.
-pub record Traced (P : Policy) (σ τ : State) : Type 0 where
-  pub steps : List TraceStep
-  pub runs : runOf (P .assigns) (P .revokes) σ steps ≡ ran τ
-
--- steps from the end of a run go on with it
-run-onward : (P : Policy) {σ τ υ : State} → Run P σ τ → (steps : List TraceStep) → runOf (P .assigns) (P .revokes) τ steps ≡ ran υ → Run P σ υ
-unfolding runOf
-run-onward P {σ} run [] e = subst (Run P σ) (ran-same e) run
-run-onward P {σ} {τ} {υ} run (step ∷ steps) e = go (possible (P .assigns) (P .revokes) τ step) refl (λ run′. run-onward P run′ steps)
-  where
-    go : (b : Bool) → possible (P .assigns) (P .revokes) τ step ≡ b
-        → (Run P σ (after (P .assigns) (P .revokes) τ step) → runOf (P .assigns) (P .revokes) (after (P .assigns) (P .revokes) τ step) steps ≡ ran υ → Run P σ υ) → Run P σ υ
-    go true h rest = rest (Run.next run (possible-step P τ step h)) (later-ran _ (sym (run-on (P .assigns) (P .revokes) τ step steps h) ∙ e))
-    go false h rest = absurd (broken-ran (sym (run-off (P .assigns) (P .revokes) τ step steps h) ∙ e))
-
--- Steps that are all possible are a run of every policy with those lists.
-pub ran-run : (P : Policy) {σ τ : State} (steps : List TraceStep) → runOf (P .assigns) (P .revokes) σ steps ≡ ran τ → Run P σ τ
-ran-run P steps e = run-onward P Run.stay steps e
-
-run-ran : {P : Policy} {σ τ : State} → SizedRules (P .assigns) → Run P σ τ → Traced P σ τ
-unfolding runOf
-run-ran sizes Run.stay = record { steps = []; runs = refl }
-run-ran {P} {σ} sizes (Run.next run step) =
-    let before = run-ran sizes run in
-    let one = step-possible sizes step in
-    record { steps = before .steps ++ (one .step ∷ []); runs = run-more (P .assigns) (P .revokes) σ (before .steps) (one .step) (before .runs) (one .is-possible) ∙ ap ran (one .leads) }
-
--- The runs of a policy are exactly the lists of possible steps.
-pub run-exact : {P : Policy} {σ τ : State} → SizedRules (P .assigns) → Run P σ τ ↔ Traced P σ τ
-run-exact {P} sizes = (run-ran sizes, λ traced. ran-run P (traced .steps) (traced .runs))
 
 -- ---- a broken run
 

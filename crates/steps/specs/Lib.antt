@@ -6,5 +6,4 @@ pub mod Places
 pub mod Runs
 pub mod Exact
 pub mod Bad
-pub mod Attacks
 pub mod Arrays

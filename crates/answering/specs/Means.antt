@@ -1,0 +1,26 @@
+-- What ATTACKED means of the policy: a run of the model to a bad state.
+use Prim.Native.Nat.{ℕ}
+use mathlib.Core.List.{List}
+use mathlib.Core.Path.{_≡_}
+use Rattle.model.specs.Policy.{State, Run, Bad}
+use Rattle.reading.specs.Texts.{read}
+use Rattle.reading.specs.Policy.{Said, policyOf, readPolicy}
+use Rattle.running.specs.Exact.{attacked-attack}
+use Rattle.answering.specs.declared.Answer.{Answer}
+use Rattle.answering.specs.Answers.{answerOf}
+use Rattle.answering.specs.Exact.{attacked-exact}
+
+-- The policy text is read, and the policy that it says has a run from its holdings to a bad state.
+pub record BadRun (policy : List ℕ) : Type 0 where
+  pub said : Said
+  pub reads : readPolicy policy ≡ read said
+  pub last : State
+  pub run : Run (policyOf said) (said .holdings) last
+  pub bad : Bad (policyOf said .goals) last
+
+-- ATTACKED is answered only where there is such a run.
+pub attacked-means : (policy evidence : List ℕ) {n u g : ℕ} → answerOf policy evidence ≡ Answer.Attacked n u g → BadRun policy
+attacked-means policy evidence {n} {u} {g} is =
+    let texts = attacked-exact policy evidence n u g .0 is in
+    let attack = attacked-attack (texts .holds) in
+    record { said = texts .said; reads = texts .reads; last = attack .last; run = attack .run; bad = attack .bad }

@@ -1,0 +1,150 @@
+-- When `check` refuses, with which number and at which line, and that the bad line is looked for where the answer says.
+use Prim.Native.Nat.{ℕ, _-_, _≤_}
+use mathlib.Core.Bool.{Bool, true, false, cond}
+use mathlib.Core.List.{List}
+use mathlib.Core.Logic.{_↔_}
+use mathlib.Core.Path.{_≡_, refl, ap, subst, _∙_}
+use lib.Dec.{eqb, lit≤}
+use lib.ListN.{length}
+use native.Mathlib.Omega.{arith}
+use Rattle.reading.specs.Texts.{Judged, Reading, read, refused}
+use Rattle.reading.specs.Policy.{Said, countsOf, readPolicy}
+use Rattle.reading.specs.PolicyExact.{PolicyRefusal, policy-refusal-exact}
+use Rattle.reading.specs.Evidence.{EvidenceRefusal}
+use Rattle.typings.specs.TypingText.{readTyping, tableOf}
+use Rattle.typings.specs.Exact.{typing-refusal-exact}
+use Rattle.traces.specs.TraceText.{Traced, readTrace}
+use Rattle.traces.specs.Exact.{trace-refusal-exact}
+use Rattle.places.specs.declared.Refusal.{Refusal}
+use Rattle.places.specs.Place.{isTyping, told, refusedOver, refusalAfter, refusalAs, refusalOf}
+use Rattle.steps.specs.declared.Found.{Found}
+use Rattle.steps.specs.Tests.{firstBad}
+use Rattle.steps.specs.Traces.{Ran, broken, ran, runOf}
+use Rattle.judging.specs.declared.TypingVerdict.{TypingVerdict}
+use Rattle.judging.specs.Verdict.{typingVerdict}
+use Rattle.running.specs.declared.TraceVerdict.{TraceVerdict}
+use Rattle.running.specs.Verdict.{lastVerdict, ranVerdict, readVerdict, traceVerdict}
+use Rattle.running.specs.Exact.{run-refused}
+use Rattle.answering.specs.declared.Answer.{Answer}
+use Rattle.answering.specs.Answers.{judgedAnswer, traceAnswer, answerOf}
+use Rattle.answering.specs.CheckRules.{Refused, of-policy, of-typing, of-trace}
+use Rattle.answering.specs.Kinds.{typing-kind}
+use Rattle.answering.specs.Outcomes.{Outcome, no-policy, no-typing, typed, traced, kind-answer, policy-refused, typing-refused, outcome}
+
+-- ---- the numbers of refusals
+
+-- A policy's refusal has a number from 10 to 16, and so has a piece of evidence's.
+pub policy-number : {text : List ℕ} {k n : ℕ} → PolicyRefusal text k n → (10 ≤ k) × (k ≤ 16)
+policy-number (PolicyRefusal.too-long above) = (lit≤ tt, lit≤ tt)
+policy-number (PolicyRefusal.malformed at is) = (lit≤ tt, lit≤ tt)
+policy-number (PolicyRefusal.above-limit at is) = (lit≤ tt, lit≤ tt)
+policy-number (PolicyRefusal.undeclared at is) = (lit≤ tt, lit≤ tt)
+policy-number (PolicyRefusal.no-end fits above tail) = (lit≤ tt, lit≤ tt)
+policy-number (PolicyRefusal.after-end at is) = (lit≤ tt, lit≤ tt)
+
+pub evidence-number : {S : Type 0} {judge : S → List ℕ → Judged S} {formed known last : S → List ℕ → Bool} {start : S} {text : List ℕ} {k n : ℕ} → EvidenceRefusal judge formed known last start text k n
+    → (10 ≤ k) × (k ≤ 16)
+evidence-number (EvidenceRefusal.too-long above) = (lit≤ tt, lit≤ tt)
+evidence-number (EvidenceRefusal.malformed at is) = (lit≤ tt, lit≤ tt)
+evidence-number (EvidenceRefusal.misnamed at is) = (lit≤ tt, lit≤ tt)
+evidence-number (EvidenceRefusal.no-end fits above tail) = (lit≤ tt, lit≤ tt)
+evidence-number (EvidenceRefusal.after-end at is) = (lit≤ tt, lit≤ tt)
+
+-- ---- when the answer is a refusal
+
+-- two refusals that are the same answer have the same number and line
+same-refusal : {k l n m : ℕ} (P : ℕ → ℕ → Type 0) → Answer.Refused k n ≡ Answer.Refused l m → P k n → P l m
+same-refusal {k} {l} {n} {m} P is holds =
+    let number : k ≡ l = cc in
+    let line : n ≡ m = cc in
+    subst (λ (j : ℕ). P j m) number (subst (P k) line holds)
+
+module _ (policy evidence : List ℕ) where
+  refused-told : {a : Answer} {k n : ℕ} → Outcome policy evidence a → a ≡ Answer.Refused k n → Refused policy evidence k n
+  unfolding judgedAnswer traceAnswer
+  refused-told (no-policy {k = k} {n = n} reads) is = same-refusal (Refused policy evidence) is (of-policy (policy-refusal-exact policy k n .0 reads))
+  refused-told (no-typing {s = s} {k = k} {n = n} reads kind over) is = same-refusal (Refused policy evidence) is (of-typing reads kind (typing-refusal-exact (s .roles) evidence k n .0 over))
+  refused-told {k = k} {n = n} (typed {s = s} {t = t} reads over) is = go (typingVerdict s (tableOf t)) is
+    where
+      go : (v : TypingVerdict) → judgedAnswer (countsOf s) (tableOf t) v ≡ Answer.Refused k n → Refused policy evidence k n
+      go TypingVerdict.Accepted e = absurd (let z : _≡_ {A = ℕ} 0 1 = cc in omega arith)
+      go (TypingVerdict.Fails part number) e = absurd (let z : _≡_ {A = ℕ} 0 1 = cc in omega arith)
+  refused-told {k = k} {n = n} (traced {s = s} reads kind) is =
+      of-trace reads kind (trace-refusal-exact (length (s .assigns)) (length (s .revokes)) (s .users) evidence k n .0 (run-refused s evidence k n .0 (go (traceVerdict s evidence) is)))
+    where
+      go : (v : TraceVerdict) → traceAnswer v ≡ Answer.Refused k n → v ≡ TraceVerdict.Refused k n
+      go (TraceVerdict.Refused number line) e = cc
+      go (TraceVerdict.Attacked steps user goal) e = absurd (let z : _≡_ {A = ℕ} 0 1 = cc in omega arith)
+      go (TraceVerdict.Broken step) e = absurd (let z : _≡_ {A = ℕ} 0 1 = cc in omega arith)
+      go (TraceVerdict.Short steps) e = absurd (let z : _≡_ {A = ℕ} 0 1 = cc in omega arith)
+
+  refused-back : {k n : ℕ} → Refused policy evidence k n → answerOf policy evidence ≡ Answer.Refused k n
+  unfolding traceAnswer
+  refused-back {k} {n} (of-policy refusal) = policy-refused policy evidence (policy-refusal-exact policy k n .1 refusal)
+  refused-back {k} {n} (of-typing {s = s} reads kind refusal) = typing-refused policy evidence reads kind (typing-refusal-exact (s .roles) evidence k n .1 refusal)
+  refused-back {k} {n} (of-trace {s = s} reads kind refusal) =
+      kind-answer policy evidence reads kind
+      ∙ ap traceAnswer (run-refused s evidence k n .1 (trace-refusal-exact (length (s .assigns)) (length (s .revokes)) (s .users) evidence k n .1 refusal))
+
+  -- The answer is a refusal with a number at a line exactly when the policy has it; or the policy is read and the evidence has it, as
+  -- a typing where it is one by its first line, and else as a trace.
+  pub refused-exact : (k n : ℕ) → answerOf policy evidence ≡ Answer.Refused k n ↔ Refused policy evidence k n
+  refused-exact k n = (refused-told (outcome policy evidence), refused-back)
+
+  -- A refusal has a number from 10 to 16, and so is no verdict.
+  pub refused-number : {k n : ℕ} → answerOf policy evidence ≡ Answer.Refused k n → (10 ≤ k) × (k ≤ 16)
+  refused-number {k} {n} is = go (refused-exact k n .0 is)
+    where
+      go : {k n : ℕ} → Refused policy evidence k n → (10 ≤ k) × (k ≤ 16)
+      go (of-policy refusal) = policy-number refusal
+      go (of-typing reads kind refusal) = evidence-number refusal
+      go (of-trace reads kind refusal) = evidence-number refusal
+
+-- ---- where the bad line is looked for
+
+-- The number and line of an answer that is a refusal; 0 and 0 of any other.
+unfoldable pub refusalIn : Answer → Refusal
+refusalIn (Answer.Safe roles assigns revokes goals pinned) = record { number = 0; line = 0 }
+refusalIn (Answer.Attacked steps user goal) = record { number = 0; line = 0 }
+refusalIn (Answer.Unproved part number) = record { number = 0; line = 0 }
+refusalIn (Answer.Broken step) = record { number = 0; line = 0 }
+refusalIn (Answer.Short steps) = record { number = 0; line = 0 }
+refusalIn (Answer.Refused number line) = record { number = number; line = line }
+
+module _ (policy evidence : List ℕ) where
+  -- the refusal where the policy is read, by the kind of the evidence
+  kind-refusal : {s : Said} {b : Bool} → readPolicy policy ≡ read s → isTyping evidence ≡ b
+      → refusalOf policy evidence ≡ cond b (told (readTyping (s .roles) evidence)) (told (readTrace (length (s .assigns)) (length (s .revokes)) (s .users) evidence))
+  unfolding refusalAs refusalAfter refusedOver
+  kind-refusal {s} reads kind =
+      ap (λ (r : Reading Said). refusalAfter r (isTyping evidence) evidence) reads
+      ∙ ap (λ (b : Bool). cond b (told (readTyping (s .roles) evidence)) (told (readTrace (length (s .assigns)) (length (s .revokes)) (s .users) evidence))) kind
+
+  -- a trace is refused as its verdict says
+  trace-refusal : (s : Said) (r : Reading Traced) → told r ≡ refusalIn (traceAnswer (readVerdict s r))
+  unfolding told refusalIn traceAnswer readVerdict ranVerdict lastVerdict
+  trace-refusal s (refused number line) = refl
+  trace-refusal s (read t) = ranned (runOf (s .assigns) (s .revokes) (s .holdings) (t .steps))
+    where
+      found : (b : Bool) (f : Found) → record { number = 0; line = 0 } ≡ refusalIn (traceAnswer (cond b (TraceVerdict.Short (length (t .steps))) (TraceVerdict.Attacked (length (t .steps)) (f .user - 1) (f .goal))))
+      found true f = refl
+      found false f = refl
+
+      ranned : (x : Ran) → record { number = 0; line = 0 } ≡ refusalIn (traceAnswer (ranVerdict (length (t .steps)) (s .goals) x))
+      ranned (broken number) = refl
+      ranned (ran last) = found (eqb (firstBad last (s .goals) .user) 0) (firstBad last (s .goals))
+
+  told-place : {a : Answer} → Outcome policy evidence a → refusalOf policy evidence ≡ refusalIn a
+  unfolding refusalAs refusalAfter refusalIn told judgedAnswer traceVerdict
+  told-place (no-policy reads) = ap (λ (r : Reading Said). refusalAfter r (isTyping evidence) evidence) reads
+  told-place (no-typing reads kind over) = kind-refusal reads kind ∙ ap told over
+  told-place (typed {s = s} {t = t} reads over) = kind-refusal reads (typing-kind (s .roles) evidence over) ∙ ap told over ∙ go (typingVerdict s (tableOf t))
+    where
+      go : (v : TypingVerdict) → record { number = 0; line = 0 } ≡ refusalIn (judgedAnswer (countsOf s) (tableOf t) v)
+      go TypingVerdict.Accepted = refl
+      go (TypingVerdict.Fails part number) = refl
+  told-place (traced {s = s} reads kind) = kind-refusal reads kind ∙ trace-refusal s (readTrace (length (s .assigns)) (length (s .revokes)) (s .users) evidence)
+
+  -- The bad line is looked for at the number and line of the answer, and nowhere for an answer that is no refusal.
+  pub refused-place : refusalOf policy evidence ≡ refusalIn (answerOf policy evidence)
+  refused-place = told-place (outcome policy evidence)

@@ -1,0 +1,164 @@
+-- Going through the steps of a trace is exact against the model: it ends in a state exactly when the steps follow to it, and breaks exactly
+-- at the first that is no step; and steps that follow are the runs of the policy.
+use Prim.Native.Nat.{ℕ, zero, suc, _<_}
+use mathlib.Core.Bool.{Bool, true, false, false≢true}
+use mathlib.Core.List.{List, [], _∷_, _++_, List·Memᴰ as Listed, List·Memᴰ·head as foremost, List·Memᴰ·tail as further}
+use mathlib.Core.Logic.{_↔_}
+use mathlib.Core.Path.{_≡_, refl, sym, ap, subst, _∙_}
+use lib.ListN.{length, getD}
+use native.Mathlib.Omega.{arith}
+use Rattle.roles.specs.Sets.{emptySet}
+use Rattle.model.specs.declared.Assign.{Assign}
+use Rattle.model.specs.declared.Revoke.{Revoke}
+use Rattle.model.specs.Policy.{Policy, State, granted, revoked, Run}
+use Rattle.model.specs.Policy as model
+use Rattle.steps.specs.declared.Step.{Step}
+use Rattle.steps.specs.Traces.{assignAt, revokeAt, possible, after, broken, ran, later, runOf}
+use Rattle.steps.specs.Runs.{ran-same, broken-ran, later-ran, run-on, run-off}
+use Rattle.steps.specs.Exact.{SizedRules, BrokenAt, assign-possible, revoke-possible, broken-first}
+use Rattle.following.specs.Follows.{At, here, there, Use, Follows, Breaks}
+
+-- ---- places of a list
+
+module _ {A : Type 0} where
+  at-inside : {l : List A} {place : ℕ} {a : A} → At l place a → place < length l
+  at-inside here = omega arith
+  at-inside (there at) = omega (arith, at-inside at)
+
+  at-stands : (d : A) {l : List A} {place : ℕ} {a : A} → At l place a → getD l place d ≡ a
+  at-stands d here = refl
+  at-stands d (there at) = at-stands d at
+
+  stands-at : (d : A) (l : List A) (place : ℕ) → place < length l → At l place (getD l place d)
+  stands-at d [] place inside = absurd (omega arith)
+  stands-at d (a ∷ l) zero inside = here
+  stands-at d (a ∷ l) (suc place) inside = there (stands-at d l place (omega arith))
+
+  at-listed : {l : List A} {place : ℕ} {a : A} → At l place a → Listed a l
+  at-listed here = foremost refl
+  at-listed (there at) = further (at-listed at)
+
+  listed-at : {l : List A} {a : A} → Listed a l → (place : ℕ) × At l place a
+  listed-at {a = a} (foremost {xs = l} e) = (0, subst (λ (x : A). At (x ∷ l) 0 a) e here)
+  listed-at (further m) = let (place, at) = listed-at m in (suc place, there at)
+
+-- ---- a step
+
+module _ {P : Policy} where
+  -- A use is a step of the model,
+  pub use-step : {σ τ : State} {step : Step} → Use P σ step τ → model.Step P σ τ
+  use-step (Use.assign at can) = model.Step.assign (at-listed at) can
+  use-step (Use.revoke at can) = model.Step.revoke (at-listed at) can
+
+  -- and every step of the model is one.
+  pub step-use : {σ τ : State} → model.Step P σ τ → (step : Step) × Use P σ step τ
+  step-use (model.Step.assign {rule = rule} {actor = actor} {user = user} listed can) =
+      let (place, at) = listed-at listed in
+      (Step.Assign actor place user, Use.assign at can)
+  step-use (model.Step.revoke {rule = rule} {actor = actor} {user = user} listed can) =
+      let (place, at) = listed-at listed in
+      (Step.Revoke actor place user, Use.revoke at can)
+
+  -- a possible step is a use that leads to the state after it
+  possible-use : SizedRules (P .assigns) → (σ : State) (step : Step) → possible (P .assigns) (P .revokes) σ step ≡ true → Use P σ step (after (P .assigns) (P .revokes) σ step)
+  unfolding assignAt revokeAt after
+  possible-use sizes σ (Step.Assign actor place user) e =
+      let (inside, can) = assign-possible (P .assigns) (P .revokes) σ actor place user sizes .0 e in
+      Use.assign (stands-at _ (P .assigns) place inside) can
+  possible-use sizes σ (Step.Revoke actor place user) e =
+      let (inside, can) = revoke-possible (P .assigns) (P .revokes) σ actor place user .0 e in
+      Use.revoke (stands-at _ (P .revokes) place inside) can
+
+  -- and a use is possible, and leads there
+  use-possible : SizedRules (P .assigns) → {σ τ : State} {step : Step} → Use P σ step τ → (possible (P .assigns) (P .revokes) σ step ≡ true) × (after (P .assigns) (P .revokes) σ step ≡ τ)
+  unfolding assignAt revokeAt after
+  use-possible sizes {σ} (Use.assign {actor = actor} {place = place} {user = user} at can) =
+      let same = at-stands (record { admin = 0; positive = emptySet; negative = emptySet; target = 0 }) at in
+      (assign-possible (P .assigns) (P .revokes) σ actor place user sizes .1 (at-inside at, rw same can), ap (λ (r : Assign). granted σ user (r .target)) same)
+  use-possible sizes {σ} (Use.revoke {actor = actor} {place = place} {user = user} at can) =
+      let same = at-stands (record { admin = 0; target = 0 }) at in
+      (revoke-possible (P .assigns) (P .revokes) σ actor place user .1 (at-inside at, rw same can), ap (λ (r : Revoke). revoked σ user (r .target)) same)
+
+-- ---- steps that follow
+
+module _ {P : Policy} (sizes : SizedRules (P .assigns)) where
+  ran-follows : (σ : State) {τ : State} (steps : List Step) → runOf (P .assigns) (P .revokes) σ steps ≡ ran τ → Follows P σ steps τ
+  unfolding runOf
+  ran-follows σ [] e = subst (Follows P σ []) (ran-same e) Follows.none
+  ran-follows σ {τ} (step ∷ steps) e = go (possible (P .assigns) (P .revokes) σ step) refl (ran-follows (after (P .assigns) (P .revokes) σ step) steps)
+    where
+      go : (b : Bool) → possible (P .assigns) (P .revokes) σ step ≡ b
+          → (runOf (P .assigns) (P .revokes) (after (P .assigns) (P .revokes) σ step) steps ≡ ran τ → Follows P (after (P .assigns) (P .revokes) σ step) steps τ) → Follows P σ (step ∷ steps) τ
+      go true h rest = Follows.next (possible-use sizes σ step h) (rest (later-ran _ (sym (run-on (P .assigns) (P .revokes) σ step steps h) ∙ e)))
+      go false h rest = absurd (broken-ran (sym (run-off (P .assigns) (P .revokes) σ step steps h) ∙ e))
+
+  follows-ran : {σ τ : State} {steps : List Step} → Follows P σ steps τ → runOf (P .assigns) (P .revokes) σ steps ≡ ran τ
+  unfolding runOf later
+  follows-ran Follows.none = refl
+  follows-ran {σ} (Follows.next {step = step} {steps = steps} used rest) =
+      let (is-possible, leads) = use-possible sizes used in
+      run-on (P .assigns) (P .revokes) σ step steps is-possible ∙ ap later (ap (λ (υ : State). runOf (P .assigns) (P .revokes) υ steps) leads ∙ follows-ran rest)
+
+  -- Going through the steps ends in a state exactly when they follow to it.
+  pub follows-exact : (σ τ : State) (steps : List Step) → runOf (P .assigns) (P .revokes) σ steps ≡ ran τ ↔ Follows P σ steps τ
+  follows-exact σ τ steps = (ran-follows σ steps, follows-ran)
+
+  -- It breaks at a number exactly when the step line with that number is the first that is no step.
+  pub breaks-exact : (σ : State) (steps : List Step) (number : ℕ) → runOf (P .assigns) (P .revokes) σ steps ≡ broken number ↔ Breaks P σ steps number
+  breaks-exact σ steps number = (λ e. told (exact .0 e), λ breaks. exact .1 (given breaks))
+    where
+      exact : runOf (P .assigns) (P .revokes) σ steps ≡ broken number ↔ BrokenAt (P .assigns) (P .revokes) σ steps number
+      exact = broken-first (P .assigns) (P .revokes) σ steps number
+
+      told : BrokenAt (P .assigns) (P .revokes) σ steps number → Breaks P σ steps number
+      told at = record {
+        earlier = at .earlier;
+        step = at .step;
+        rest = at .rest;
+        parted = at .parted;
+        numbered = at .numbered;
+        state = at .state;
+        follows = ran-follows σ (at .earlier) (at .runs);
+        no-use = λ used. false≢true (sym (at .impossible) ∙ use-possible sizes used .0);
+      }
+
+      given : Breaks P σ steps number → BrokenAt (P .assigns) (P .revokes) σ steps number
+      given breaks = record {
+        earlier = breaks .earlier;
+        step = breaks .step;
+        rest = breaks .rest;
+        parted = breaks .parted;
+        numbered = breaks .numbered;
+        state = breaks .state;
+        runs = follows-ran (breaks .follows);
+        impossible = never (possible (P .assigns) (P .revokes) (breaks .state) (breaks .step)) refl;
+      }
+        where
+          never : (b : Bool) → possible (P .assigns) (P .revokes) (breaks .state) (breaks .step) ≡ b → b ≡ false
+          never true e = absurd (breaks .no-use (possible-use sizes (breaks .state) (breaks .step) e))
+          never false e = refl
+
+-- ---- the runs of a policy
+
+module _ {P : Policy} where
+  -- steps from the end of a run go on with it
+  run-onward : {σ τ υ : State} {steps : List Step} → Run P σ τ → Follows P τ steps υ → Run P σ υ
+  run-onward run Follows.none = run
+  run-onward run (Follows.next used rest) = run-onward (Run.next run (use-step used)) rest
+
+  -- Steps that follow are a run of the policy,
+  pub follows-run : {σ τ : State} {steps : List Step} → Follows P σ steps τ → Run P σ τ
+  follows-run follows = run-onward Run.stay follows
+
+  -- steps that follow go on with one more
+  follows-more : {σ τ υ : State} {steps : List Step} {step : Step} → Follows P σ steps τ → Use P τ step υ → Follows P σ (steps ++ (step ∷ [])) υ
+  follows-more Follows.none last = Follows.next last Follows.none
+  follows-more (Follows.next used rest) last = Follows.next used (follows-more rest last)
+
+  -- and for every run of the policy there are steps that follow so.
+  pub run-follows : {σ τ : State} → Run P σ τ → (steps : List Step) × Follows P σ steps τ
+  run-follows Run.stay = ([], Follows.none)
+  run-follows (Run.next run step) =
+      let (steps, follows) = run-follows run in
+      let (line, used) = step-use step in
+      (steps ++ (line ∷ []), follows-more follows used)

@@ -1,0 +1,35 @@
+-- The steps of a trace in the model's words: which step line is a step, which steps are a run, and at which a trace breaks.
+use Prim.Native.Nat.{ℕ, suc}
+use mathlib.Core.List.{List, [], _∷_, _++_}
+use mathlib.Core.Path.{_≡_}
+use lib.ListN.{length}
+use Rattle.model.specs.declared.Assign.{Assign}
+use Rattle.model.specs.declared.Revoke.{Revoke}
+use Rattle.model.specs.Policy.{Policy, State, CanAssign, CanRevoke, granted, revoked}
+use Rattle.steps.specs.declared.Step.{Step}
+
+-- The element stands at this place of the list, from 0.
+pub data At {A : Type 0} : List A → ℕ → A → Type 0 where
+  here : {a : A} {l : List A} → At (a ∷ l) 0 a
+  there : {a b : A} {l : List A} {place : ℕ} → At l place a → At (b ∷ l) (suc place) a
+
+-- The step line is a step from one state to another: its actor can use the policy's rule at its place, of its kind, on its user, and does.
+pub data Use (P : Policy) (σ : State) : Step → State → Type 0 where
+  assign : {rule : Assign} {actor place user : ℕ} → At (P .assigns) place rule → CanAssign σ actor rule user → Use P σ (Step.Assign actor place user) (granted σ user (rule .target))
+  revoke : {rule : Revoke} {actor place user : ℕ} → At (P .revokes) place rule → CanRevoke σ actor rule user → Use P σ (Step.Revoke actor place user) (revoked σ user (rule .target))
+
+-- The step lines in turn are steps, each from the state that the one before it leads to: a run from the first state to the last.
+pub data Follows (P : Policy) : State → List Step → State → Type 0 where
+  none : {σ : State} → Follows P σ [] σ
+  next : {σ τ υ : State} {step : Step} {steps : List Step} → Use P σ step τ → Follows P τ steps υ → Follows P σ (step ∷ steps) υ
+
+-- The step line with this number, from 1, is the first that is no step: those before it are a run to a state from which it is none.
+pub record Breaks (P : Policy) (σ : State) (steps : List Step) (number : ℕ) : Type 0 where
+  pub earlier : List Step
+  pub step : Step
+  pub rest : List Step
+  pub parted : steps ≡ earlier ++ (step ∷ rest)
+  pub numbered : number ≡ suc (length earlier)
+  pub state : State
+  pub follows : Follows P σ earlier state
+  pub no-use : {τ : State} → Use P state step τ → ⊥
