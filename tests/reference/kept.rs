@@ -8,7 +8,7 @@ use std::path::{Path, PathBuf};
 #[allow(dead_code)]
 mod reference;
 
-use reference::{Merge, Sum};
+use reference::{BadLine, Merge, Sum};
 
 fn read(path: &Path) -> Vec<u8> {
     match fs::read(path) {
@@ -89,14 +89,19 @@ impl Said {
     }
 }
 
-/// Its name, the place of its bad line, and its line.
+/// Its name, where its bad line stands, where it stands as a typing, and its line.
 fn check(kept: &Kept, words: &[String]) -> Said {
     let (policy, evidence) = (kept.text(&words[1]), kept.text(&words[2]));
-    let bad = reference::bad_line(&policy, &evidence);
-    let text = if bad.in_evidence { "evidence" } else { "policy" };
-    let place = format!("{}\t{}\t{}\t", text, bad.offset, bad.offset + bad.length);
+    let bad = place(reference::bad_line(&policy, &evidence));
+    let bad_typing = place(reference::bad_typing_line(&policy, &evidence));
     let line = reference::line(&reference::check(&policy, &evidence));
-    Said::new(words[0].clone(), &[place.as_bytes(), &line, b"\n"].concat())
+    Said::new(words[0].clone(), &[bad.as_bytes(), bad_typing.as_bytes(), &line, b"\n"].concat())
+}
+
+/// Which text a bad line is in, its start and its end.
+fn place(bad: BadLine) -> String {
+    let text = if bad.in_evidence { "evidence" } else { "policy" };
+    format!("{}\t{}\t{}\t", text, bad.offset, bad.offset + bad.length)
 }
 
 /// Its three words, the answer, how many bytes of the buffer are as they were, and the text.

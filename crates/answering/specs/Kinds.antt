@@ -4,22 +4,21 @@ use mathlib.Core.Bool.{Bool, true, false, cond, true≢false}
 use mathlib.Core.List.{List, [], _∷_, _++_}
 use mathlib.Core.Path.{_≡_, refl, sym, ap, _∙_}
 use borrow.Author.Tests.{eqb-true, ne-eqb}
-use lib.Dec.{eqb}
 use lib.ListN.{length, take}
 use lib.Seq.{take-append-seam}
 use native.Mathlib.Omega.{arith}
 use Rattle.bytes.specs.Bytes.{indexOf, indexAfter}
 use Rattle.tables.specs.declared.Name.{Name}
 use Rattle.text.specs.Forms.{bytes}
-use Rattle.text.specs.Pieces.{split, onto, sameBytes, same-equal, split-piece}
+use Rattle.text.specs.Pieces.{split, sameBytes, same-equal}
 use Rattle.fields.specs.Turns.{turnOf}
 use Rattle.reading.specs.Texts.{Judged, bad, read}
 use Rattle.reading.specs.Exact.{LF, Unbroken, none, more, Above, first, next, ReadAs, read-exact}
+use Rattle.reading.specs.FirstLine.{first-piece}
 use Rattle.reading.specs.PolicyExact.{whole-piece}
 use Rattle.typings.specs.TypingLines as typing
 use Rattle.typings.specs.TypingText.{Typed, untyped, readTyping}
 use Rattle.typings.specs.TypingText as typings
-use Rattle.traces.specs.TraceLines as trace
 use Rattle.traces.specs.TraceText.{Traced, untraced, readTrace}
 use Rattle.traces.specs.TraceText as traces
 use Rattle.places.specs.Place.{isTyping}
@@ -59,23 +58,9 @@ kind-first line rest is u =
 
 -- two pieces are the bytes before a separator and those after it
 two-pieces : (mark : ℕ) (s : List ℕ) {before after : List ℕ} → split mark s ≡ before ∷ after ∷ [] → s ≡ before ++ (mark ∷ after)
-unfolding split onto
-two-pieces mark [] e = absurd (true≢false (cc))
-two-pieces mark (byte ∷ rest) {before} {after} e = go (eqb byte mark) refl e (split-piece mark rest) (λ p two. two-pieces mark rest two)
-  where
-    go : (t : Bool) → eqb byte mark ≡ t → cond t ([] ∷ split mark rest) (onto byte (split mark rest)) ≡ before ∷ after ∷ [] → (first : List ℕ) × (others : List (List ℕ)) × (split mark rest ≡ first ∷ others)
-        → ((p : List ℕ) → split mark rest ≡ p ∷ after ∷ [] → rest ≡ p ++ (mark ∷ after)) → byte ∷ rest ≡ before ++ (mark ∷ after)
-    go true marked is pieces below =
-        let none-before : before ≡ [] = cc in
-        let one : split mark rest ≡ after ∷ [] = cc in
-        let byte-is = eqb-true byte mark marked in
-        let rest-is = whole-piece mark rest one in
-        (λ i. byte-is i ∷ rest-is i) ∙ sym (ap (λ (l : List ℕ). l ++ (mark ∷ after)) none-before)
-    go false marked is (p, others, pieces) below =
-        let two : (byte ∷ p) ∷ others ≡ before ∷ after ∷ [] = sym (ap (onto byte) pieces) ∙ is in
-        let before-is : byte ∷ p ≡ before = cc in
-        let others-are : others ≡ after ∷ [] = cc in
-        ap (λ (l : List ℕ). byte ∷ l) (below p (pieces ∙ ap (λ (l : List (List ℕ)). p ∷ l) others-are)) ∙ ap (λ (l : List ℕ). l ++ (mark ∷ after)) before-is
+two-pieces mark s {before} cut =
+    let (rest, whole, left) = first-piece mark s cut in
+    whole ∙ ap (λ (l : List ℕ). before ++ (mark ∷ l)) (whole-piece mark rest left)
 
 -- ---- typings
 
@@ -118,40 +103,14 @@ typing-kind names text {t} reads =
 
 -- ---- traces
 
--- fields that make a good first line are those of the header
-trace-fields : (fields : List (List ℕ)) → trace.wellFormed false (trace.lineOf fields) ≡ true → fields ≡ bytes "trace" ∷ bytes "1" ∷ []
-unfolding trace.lineOf trace.oneField trace.twoFields trace.fourFields trace.wellFormed
-trace-fields [] formed = absurd (true≢false (sym formed))
-trace-fields (word ∷ []) formed = absurd (go (sameBytes word (bytes "end")) formed)
-  where
-    go : (b : Bool) → trace.wellFormed false (cond b trace.end trace.other) ≡ true → ⊥
-    go true e = true≢false (sym e)
-    go false e = true≢false (sym e)
-trace-fields (word ∷ edition ∷ []) formed = go (sameBytes word (bytes "trace")) refl formed
-  where
-    go : (b : Bool) → sameBytes word (bytes "trace") ≡ b → trace.wellFormed false (cond b (trace.header edition) trace.other) ≡ true → word ∷ edition ∷ [] ≡ bytes "trace" ∷ bytes "1" ∷ []
-    go true is e =
-        let word-is = same-equal word (bytes "trace") is in
-        let edition-is = same-equal edition (bytes "1") e in
-        λ i. word-is i ∷ edition-is i ∷ []
-    go false is e = absurd (true≢false (sym e))
-trace-fields (word ∷ a ∷ b ∷ []) formed = absurd (true≢false (sym formed))
-trace-fields (word ∷ a ∷ b ∷ c ∷ []) formed = absurd (go (sameBytes word (bytes "assign")) (sameBytes word (bytes "revoke")) formed)
-  where
-    go : (t u : Bool) → trace.wellFormed false (cond t (trace.assign a b c) (cond u (trace.revoke a b c) trace.other)) ≡ true → ⊥
-    go true u e = true≢false (sym e)
-    go false true e = true≢false (sym e)
-    go false false e = true≢false (sym e)
-trace-fields (word ∷ a ∷ b ∷ c ∷ d ∷ others) formed = absurd (true≢false (sym formed))
-
 -- the first line of a trace is its header
 trace-header : (assigns revokes : ℕ) (users : List Name) (line : List ℕ) → ((k : ℕ) → traces.judgeLine assigns revokes users untraced line ≡ bad k → ⊥) → line ≡ bytes "trace\t1"
-unfolding traces.judgeLine traces.answered untraced trace.traceLine trace.judged trace.answerTo turnOf
-trace-header assigns revokes users line good = go (trace.wellFormed false (trace.lineOf (split 9 line))) refl
+unfolding traces.judgeLine traces.headerLine untraced
+trace-header assigns revokes users line good = go (sameBytes line (bytes "trace\t1")) refl
   where
-    go : (b : Bool) → trace.wellFormed false (trace.lineOf (split 9 line)) ≡ b → line ≡ bytes "trace\t1"
-    go true formed = two-pieces 9 line (trace-fields (split 9 line) formed)
-    go false formed = absurd (good 15 (rw formed))
+    go : (b : Bool) → sameBytes line (bytes "trace\t1") ≡ b → line ≡ bytes "trace\t1"
+    go true is = same-equal line (bytes "trace\t1") is
+    go false is = absurd (good 15 (rw is))
 
 -- A text that is read as a trace is no typing by its first line.
 pub trace-kind : (assigns revokes : ℕ) (users : List Name) (text : List ℕ) {t : Traced} → readTrace assigns revokes users text ≡ read t → isTyping text ≡ false

@@ -16,7 +16,9 @@ use Rattle.typings.specs.Exact.{typing-refusal-exact}
 use Rattle.traces.specs.TraceText.{Traced, readTrace}
 use Rattle.traces.specs.Exact.{trace-refusal-exact}
 use Rattle.places.specs.declared.Refusal.{Refusal}
-use Rattle.places.specs.Place.{isTyping, told, refusedOver, refusalAfter, refusalAs, refusalOf}
+use Rattle.places.specs.Place.{isTyping, told, refusedOver, refusalAfter, refusalAs, refusalOf, badPlace, badLine}
+use Rattle.places.specs.BadLines.{BadAt}
+use Rattle.places.specs.BadLineExact.{bad-line-exact}
 use Rattle.steps.specs.declared.Found.{Found}
 use Rattle.steps.specs.Tests.{firstBad}
 use Rattle.steps.specs.Traces.{Ran, broken, ran, runOf}
@@ -148,3 +150,8 @@ module _ (policy evidence : List ℕ) where
   -- The bad line is looked for at the number and line of the answer, and nowhere for an answer that is no refusal.
   pub refused-place : refusalOf policy evidence ≡ refusalIn (answerOf policy evidence)
   refused-place = told-place (outcome policy evidence)
+
+  -- The bad line is that line of that text by which the answer refuses, and the empty part at the policy's start for a missing `end`
+  -- and for every other answer.
+  pub bad-line-told : BadAt policy evidence (refusalIn (answerOf policy evidence) .number) (refusalIn (answerOf policy evidence) .line) (badPlace policy evidence) (badLine policy evidence)
+  bad-line-told = subst (λ (r : Refusal). BadAt policy evidence (r .number) (r .line) (badPlace policy evidence) (badLine policy evidence)) refused-place (bad-line-exact policy evidence)

@@ -25,6 +25,7 @@ use Rattle.merging.specs.Merge as merge
 use Rattle.answering.specs.declared.Answer.{Answer}
 use Rattle.answering.specs.Answers.{numberOf, answerOf, nameAt}
 use Rattle.printing.specs.Line.{field, partText, lineOf, checkLine}
+use Rattle.printing.specs.Program.{File, held, unread, noFile, programLine}
 use Rattle.telling.specs.Numbers.{placeText}
 use Rattle.arbac.specs.Face.{noRoom, roomFor, toldNumber, toldIn}
 use Rattle.arbac.specs.FaceNumbers.{IsSafe, safe, IsSummed, summed, IsMerged, merged, check-numbered, sum-numbered, merge-numbered}
@@ -145,3 +146,10 @@ line-length users (Answer.Refused number line) = simp length-append (omega (arit
 pub line-longest : (policy evidence : List ℕ) → length (checkLine policy evidence) ≤ 128
 unfolding checkLine
 line-longest policy evidence = line-length _ _
+
+-- The same of the line that the program prints, NOFILE among them.
+pub program-longest : (policy evidence : File) → length (programLine policy evidence) ≤ 128
+unfolding programLine noFile field
+program-longest unread evidence = lit≤ tt
+program-longest (held policy) unread = lit≤ tt
+program-longest (held policy) (held evidence) = line-longest policy evidence

@@ -8,4 +8,5 @@ pub use places::bad_place;
 pub use places::bad_typing_line;
 pub use places::bad_typing_place;
 pub use printing::check_line;
+pub use printing::program_line;
 pub use summing::sum;

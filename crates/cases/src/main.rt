@@ -1,7 +1,8 @@
 // Runs the cases that its arguments name, three words each: the case's name, its policy file and its evidence file. It prints the
-// name, which text the bad line is in, its start and its end, and the line that `check` prints.
+// name, which text the bad line is in, its start and its end, the same where a typing is wanted, and the line that `check` prints.
 use files::load_argument;
 use libc::STDOUT_FILENO;
+use places::BadPlace;
 
 // Writes a tab and a number.
 fn field(number: usize) {
@@ -9,9 +10,8 @@ fn field(number: usize) {
     io::print_decimal(STDOUT_FILENO, number as u64);
 }
 
-// Writes where the bad line stands.
-fn show_bad_line(policy: &[u8], evidence: &[u8]) {
-    let place = places::bad_place(policy, evidence);
+// Writes which text a place is in, its start and its end.
+fn show_place(place: BadPlace) {
     if place.evidence {
         io::write_all(STDOUT_FILENO, b"\tevidence");
     } else {
@@ -19,6 +19,12 @@ fn show_bad_line(policy: &[u8], evidence: &[u8]) {
     }
     field(place.from);
     field(place.to);
+}
+
+// Writes where the bad line stands, and where it does if a typing is wanted.
+fn show_bad_lines(policy: &[u8], evidence: &[u8]) {
+    show_place(arbac::bad_place(policy, evidence));
+    show_place(arbac::bad_typing_place(policy, evidence));
 }
 
 // Writes what `check` prints.
@@ -38,7 +44,7 @@ fn run(case: usize, first: usize, second: usize) {
     let policy_length = load_argument(first, &mut policy);
     let evidence_length = load_argument(second, &mut evidence);
     io::write_all(STDOUT_FILENO, &name[..length]);
-    show_bad_line(&policy[..policy_length], &evidence[..evidence_length]);
+    show_bad_lines(&policy[..policy_length], &evidence[..evidence_length]);
     show_line(&policy[..policy_length], &evidence[..evidence_length]);
 }
 

@@ -12,3 +12,5 @@ pub mod Together
 pub mod ReadBack
 pub mod Checked
 pub mod SumLaws
+pub mod BadTyping
+pub mod Pinned

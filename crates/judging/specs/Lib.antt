@@ -5,3 +5,4 @@ pub mod Failing
 pub mod Order
 pub mod Layout
 pub mod Exact
+pub mod Pinned

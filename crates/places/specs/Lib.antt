@@ -2,3 +2,7 @@
 pub mod Place
 pub mod FirstLine
 pub mod PlaceLaws
+pub mod BadLines
+pub mod LinePlaces
+pub mod LineNumbers
+pub mod BadLineExact

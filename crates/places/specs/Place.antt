@@ -34,6 +34,7 @@ unfoldable pub refusalAfter : Reading Said → (typing : Bool) → List ℕ → 
 refusalAfter (read s) typing evidence = refusedOver typing (length (s .assigns)) (length (s .revokes)) (s .roles) (s .users) evidence
 refusalAfter (refused number line) typing evidence = record { number = number; line = line }
 
+-- The refusal of a policy and a piece of evidence, read as a typing or as a trace.
 unfoldable pub refusalAs : (typing : Bool) (policy evidence : List ℕ) → Refusal
 refusalAs typing policy evidence = refusalAfter (readPolicy policy) typing evidence
 

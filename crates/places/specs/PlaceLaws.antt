@@ -26,7 +26,7 @@ use Rattle.places.specs.declared.Span.{Span}
 use Rattle.places.specs.declared.BadPlace.{BadPlace}
 use Rattle.typings.specs.TypingText.{Typed, readTyping, refusedTyping, answerOf as typingAnswer, typingRead}
 use Rattle.traces.specs.TraceText.{Traced, readTrace, refusedTrace, answerOf as traceAnswer, traceRead}
-use Rattle.places.specs.Place.{isTyping, told, refusedOver, refusalAfter, refusalAs, noSpan, spanOf, badSpan, placeOf, bytesAt, beginsAt}
+use Rattle.places.specs.Place.{isTyping, told, refusedOver, refusalAfter, refusalAs, typingRefusalOf, noSpan, spanOf, badSpan, placeOf, bytesAt, beginsAt}
 
 -- the refusal that a reader's record has
 typing-told : (r : Reading Typed) → record { number = typingAnswer r .refusal; line = typingAnswer r .line } ≡ told r
@@ -57,6 +57,11 @@ module _ (typing : Bool) (policy evidence : List ℕ) where
   pub after-read : {s : Said} → readPolicy policy ≡ read s → refusedOver typing (length (s .assigns)) (length (s .revokes)) (s .roles) (s .users) evidence ≡ refusalAs typing policy evidence
   unfolding refusalAs refusalAfter
   after-read is = sym (ap (λ (r : Reading Said). refusalAfter r typing evidence) is)
+
+-- the refusal of a text where a typing is wanted
+pub typing-refused : (policy typing : List ℕ) {s : Said} {number line : ℕ} → readPolicy policy ≡ read s → readTyping (s .roles) typing ≡ refused number line → typingRefusalOf policy typing ≡ record { number = number; line = line }
+unfolding refusedOver told
+typing-refused policy typing reads is = sym (after-read true policy typing reads) ∙ ap told is
 
 -- the evidence over the records of a policy that is read
 pub over-told : {policy : List ℕ} {D : Directory} {R : Rules} → Told policy D R → (typing : Bool) (evidence : List ℕ)
@@ -111,7 +116,7 @@ none-inside : (text : List ℕ) → Inside noSpan text
 unfolding noSpan
 none-inside text = record { ordered = zero-le; within = zero-le }
 
-index-most : (mark : ℕ) (s : List ℕ) → indexOf mark s ≤ length s
+pub index-most : (mark : ℕ) (s : List ℕ) → indexOf mark s ≤ length s
 unfolding indexOf indexAfter
 index-most mark [] = zero-le
 index-most mark (byte ∷ s) = go (eqb byte mark) (index-most mark s)

@@ -8,6 +8,8 @@ ghost use Rattle.text.specs.Forms.{bytes};
 ghost use Rattle.writing.specs.Written.{spelled, decimal};
 ghost use Rattle.printing.specs.Line.{field, partText, lineOf, checkLine, shownLength, shown};
 ghost use Rattle.printing.specs.LineSteps.{Goes, Line};
+ghost use Rattle.printing.specs.Program.{fileOf, programLine};
+ghost use Rattle.printing.specs.Showing.{Shows};
 ghost use Rattle.answering.specs.declared.Answer.{Answer};
 ghost use Rattle.answering.specs.Named.{nameIn};
 use answering::Answer;
@@ -136,6 +138,16 @@ fn write_line(out: &mut [u8], answer: Answer, name: Name) -> usize
     }
 }
 
+// Puts a line at the start of the buffer, and answers its length; 0 where the buffer is too short.
+fn show_line(line: &[u8], out: &mut [u8]) -> usize
+    ensures { λ r. ⌜ Shows (now (line .entry)) (now (out .entry)) r (now (out .exit)) ⌝ }
+{
+    if out.len() < line.len() {
+        return 0;
+    }
+    write_bytes(out, line)
+}
+
 // Makes the line that `check` prints for two texts, at the start of the buffer, and answers its length; 0 where the buffer is too short.
 pub fn check_line(policy: &[u8], evidence: &[u8], out: &mut [u8]) -> usize
     ensures { λ r. ⌜ r ≡ shownLength (checkLine (now (policy .entry)) (now (evidence .entry))) (now (out .entry)) ⌝ }
@@ -147,8 +159,27 @@ pub fn check_line(policy: &[u8], evidence: &[u8], out: &mut [u8]) -> usize
     let name = named.name;
     let mut line = [0u8; 128];
     let length = write_line(&mut line, answer, name);
-    if out.len() < length {
-        return 0;
+    show_line(&line[..length], out)
+}
+
+// Makes the line that the program `check` prints for two files, each with whether it could be read and its bytes, at the start of
+// the buffer, and answers its length; 0 where the buffer is too short.
+pub fn program_line(
+    policy_read: bool,
+    policy: &[u8],
+    evidence_read: bool,
+    evidence: &[u8],
+    out: &mut [u8],
+) -> usize
+    ensures { λ r. ⌜ r ≡ shownLength (programLine (fileOf «policy_read» (now (policy .entry))) (fileOf «evidence_read» (now (evidence .entry)))) (now (out .entry)) ⌝ }
+    ensures { λ r. ⌜ now (out .exit) ≡ shown (programLine (fileOf «policy_read» (now (policy .entry))) (fileOf «evidence_read» (now (evidence .entry)))) (now (out .entry)) ⌝ }
+    ensures { λ r. ⌜ (r ≤ length (now (out .exit))) × (r ≡ length (take r (now (out .exit)))) ⌝ }
+{
+    if !policy_read {
+        return show_line(b"NOFILE\tpolicy\n", out);
     }
-    write_bytes(out, &line[..length])
+    if !evidence_read {
+        return show_line(b"NOFILE\tevidence\n", out);
+    }
+    check_line(policy, evidence, out)
 }

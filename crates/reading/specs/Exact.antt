@@ -53,13 +53,13 @@ module _ {S : Type 0} (judge : S → List ℕ → Judged S) (malformed long : �
 -- ---- the pieces between LFs
 
 -- bytes without LF are one piece
-one-piece : {tail : List ℕ} → Unbroken tail → split LF tail ≡ tail ∷ []
+pub one-piece : {tail : List ℕ} → Unbroken tail → split LF tail ≡ tail ∷ []
 unfolding split onto
 one-piece none = refl
 one-piece (more {byte} {rest} other u) = rw (ne-eqb byte LF other, one-piece u)
 
 -- a line with its LF is the first piece
-line-piece : {line : List ℕ} → Unbroken line → (rest : List ℕ) → split LF (line ++ (LF ∷ rest)) ≡ line ∷ split LF rest
+pub line-piece : {line : List ℕ} → Unbroken line → (rest : List ℕ) → split LF (line ++ (LF ∷ rest)) ≡ line ∷ split LF rest
 unfolding split onto
 line-piece none rest = refl
 line-piece (more {byte} {rest = line} other u) rest = rw (ne-eqb byte LF other, line-piece u rest)

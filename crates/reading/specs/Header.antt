@@ -1,15 +1,14 @@
 -- The header of a policy text: it is the first line, with its LF, or the text is refused at line 1.
 use Prim.Native.Nat.{ℕ, _≤_, _<_}
-use mathlib.Core.Bool.{Bool, true, false, cond, true≢false}
+use mathlib.Core.Bool.{Bool, true, false, cond}
 use mathlib.Core.List.{List, [], _∷_, _++_}
-use mathlib.Core.Path.{_≡_, refl, sym, ap, ap₂, _∙_}
-use borrow.Author.Tests.{eqb-true}
-use lib.Dec.{eqb}
-use lib.ListN.{length, take, length-take}
+use mathlib.Core.Path.{_≡_, refl, ap₂, _∙_}
+use lib.ListN.{length, take}
 use native.Mathlib.Omega.{arith}
 use Rattle.text.specs.Forms.{bytes}
-use Rattle.text.specs.Pieces.{split, onto, sameBytes, same-equal, split-piece}
-use Rattle.reading.specs.Texts.{Judged, bad, refused, onward, readLines, text-fits}
+use Rattle.text.specs.Pieces.{split, sameBytes, same-equal}
+use Rattle.reading.specs.Texts.{Judged, bad, refused}
+use Rattle.reading.specs.FirstLine.{begins, begins-short, first-piece, not-begun}
 use Rattle.lines.specs.Lines.{Line, header, role, user, has, assign, revoke, goal, end, other, oneField, twoFields, threeFields, fiveFields, lineOf, inOrder, wellFormed, inTurn, judged, policyLine}
 use Rattle.reading.specs.Policy.{Said, nothing, countsOf, answered, judgeLine, readPolicy}
 use Rattle.reading.specs.PolicyExact.{whole-piece}
@@ -20,31 +19,8 @@ hasHeader text = sameBytes (take 8 text) (bytes "arbac\t1\n")
 
 -- a shorter text does not
 pub header-short : (text : List ℕ) → length text < 8 → false ≡ hasHeader text
-unfolding hasHeader
-header-short text short = go (hasHeader text) refl
-  where
-    go : (b : Bool) → hasHeader text ≡ b → false ≡ hasHeader text
-    go false is = sym is
-    go true is = absurd (omega (arith, ap length (same-equal (take 8 text) (bytes "arbac\t1\n") is), length-take 8 text))
-
--- the first of several pieces, then the separator and the bytes of the others
-pub first-piece : (mark : ℕ) (s : List ℕ) {a b : List ℕ} {more : List (List ℕ)} → split mark s ≡ a ∷ b ∷ more → (rest : List ℕ) × (s ≡ a ++ (mark ∷ rest)) × (split mark rest ≡ b ∷ more)
-unfolding split onto
-first-piece mark [] e = absurd (true≢false (cc))
-first-piece mark (byte ∷ s) {a} {b} {more} e = go (eqb byte mark) refl e (split-piece mark s) (λ p one. first-piece mark s one)
-  where
-    go : (t : Bool) → eqb byte mark ≡ t → cond t ([] ∷ split mark s) (onto byte (split mark s)) ≡ a ∷ b ∷ more
-        → (first : List ℕ) × (others : List (List ℕ)) × (split mark s ≡ first ∷ others)
-        → ((p : List ℕ) → split mark s ≡ p ∷ b ∷ more → (rest : List ℕ) × (s ≡ p ++ (mark ∷ rest)) × (split mark rest ≡ b ∷ more))
-        → (rest : List ℕ) × (byte ∷ s ≡ a ++ (mark ∷ rest)) × (split mark rest ≡ b ∷ more)
-    go true is cut piece below =
-        let none : a ≡ [] = cc in
-        (s, ap₂ (λ (x : ℕ) (l : List ℕ). l ++ (x ∷ s)) (eqb-true byte mark is) (sym none), cc)
-    go false is cut (p, others, pieces) below =
-        let one : (byte ∷ p) ∷ others ≡ a ∷ b ∷ more = sym (ap (onto byte) pieces) ∙ cut in
-        let left = below p (pieces ∙ ap (λ (l : List (List ℕ)). p ∷ l) (cc)) in
-        let first : byte ∷ p ≡ a = cc in
-        (left .0, ap (λ (l : List ℕ). byte ∷ l) (left .1) ∙ ap (λ (l : List ℕ). l ++ (mark ∷ left .0)) first, left .2)
+unfolding hasHeader begins
+header-short text short = begins-short (bytes "arbac\t1") text (omega arith)
 
 -- a line that is not the header is malformed before any other line
 not-header : (line : List ℕ) → (line ≡ bytes "arbac\t1" → ⊥) → judgeLine nothing line ≡ bad 11
@@ -94,16 +70,5 @@ not-header line other-line = go (split 9 line) refl
 
 -- A text that is not too long and does not begin with the header is malformed at line 1.
 pub headless : (text : List ℕ) → length text ≤ 32768 → hasHeader text ≡ false → readPolicy text ≡ refused 11 1
-unfolding readPolicy readLines onward hasHeader sameBytes
-headless text short none = text-fits judgeLine 11 10 nothing text short ∙ go (split 10 text) refl
-  where
-    begins : {first next : List ℕ} {more : List (List ℕ)} → split 10 text ≡ first ∷ next ∷ more → first ≡ bytes "arbac\t1" → ⊥
-    begins {first} cut is =
-        let (rest, whole, left) = first-piece 10 text cut in
-        true≢false (sym (ap hasHeader (whole ∙ ap (λ (l : List ℕ). l ++ (10 ∷ rest)) is)) ∙ none)
-
-    go : (pieces : List (List ℕ)) → split 10 text ≡ pieces → readLines judgeLine 11 nothing 1 pieces ≡ refused 11 1
-    go [] cut = refl
-    go (tail ∷ []) cut = refl
-    go (first ∷ next ∷ more) cut =
-        ap (λ (j : Judged Said). onward judgeLine 11 j nothing 1 (next ∷ more) (λ t. readLines judgeLine 11 t 2 (next ∷ more))) (not-header first (begins cut))
+unfolding readPolicy hasHeader begins
+headless text short none = not-begun judgeLine 11 10 nothing (bytes "arbac\t1") not-header text short none

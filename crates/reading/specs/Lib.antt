@@ -4,6 +4,7 @@ pub mod Policy
 pub mod Directory
 pub mod Rules
 pub mod Walk
+pub mod FirstLine
 pub mod Storing
 pub mod Bounded
 pub mod Kept

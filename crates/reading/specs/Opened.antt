@@ -21,7 +21,7 @@ use Rattle.reading.specs.Kept.{line-keeps}
 use Rattle.reading.specs.Order.{OfDirectory, early-entry, closed-line}
 use Rattle.reading.specs.Between.{Between}
 use Rattle.reading.specs.PolicyExact.{end-exact}
-use Rattle.reading.specs.Header.{first-piece}
+use Rattle.reading.specs.FirstLine.{first-piece}
 use Rattle.reading.specs.Directory.{Opening, closed, leading, directoryLines, readDirectory}
 use Rattle.reading.specs.Leading.{openingAt}
 

@@ -1,4 +1,4 @@
--- The role names of a policy that is read: each is a name packed, and none stands twice.
+-- The role and user names of a policy that is read: each is a name packed, and none stands twice among those of its kind.
 use Prim.Native.Nat.{ℕ, suc, _≤_, _<_}
 use mathlib.Core.Bool.{Bool, true, false, cond, not, _&&_, and-eq-true-iff}
 use mathlib.Core.List.{List, [], _∷_, _++_, List·Memᴰ as Listed, List·Memᴰ·not-nil as not-nil}
@@ -9,7 +9,7 @@ use lib.Seq.{getD-append-seam}
 use native.Mathlib.Decide.{decLt}
 use native.Mathlib.Omega.{arith}
 use Rattle.tables.specs.declared.Name.{Name}
-use Rattle.text.specs.Forms.{isName}
+use Rattle.text.specs.Forms.{isName, isLabel}
 use Rattle.tables.specs.Names.{packed, sameName, placeOf}
 use Rattle.text.specs.Pieces.{split}
 use Rattle.lines.specs.declared.Counts.{Counts}
@@ -73,25 +73,38 @@ named-more {names} {name} named new last = record { spelt = each-more Spelt name
 
 -- ---- what a good line adds
 
--- the name of a role line is a new name
-abbrev Fresh : List Name → Entry → Type 0
-Fresh names Entry.Header = Unit {0}
-Fresh names (Entry.Role name) = Spelt name × (length names ≤ placeOf names name)
-Fresh names (Entry.User name clearance) = Unit {0}
-Fresh names (Entry.Has holder held) = Unit {0}
-Fresh names (Entry.Assign rule) = Unit {0}
-Fresh names (Entry.Revoke rule) = Unit {0}
-Fresh names (Entry.Goal set) = Unit {0}
-Fresh names Entry.End = Unit {0}
+-- a name that is new among others
+New : List Name → Name → Type 0
+New names name = Spelt name × (length names ≤ placeOf names name)
+
+-- the name of a role line is a new role name, that of a user line a new user name
+abbrev Fresh : (roles users : List Name) → Entry → Type 0
+Fresh roles users Entry.Header = Unit {0}
+Fresh roles users (Entry.Role name) = New roles name
+Fresh roles users (Entry.User name clearance) = New users name
+Fresh roles users (Entry.Has holder held) = Unit {0}
+Fresh roles users (Entry.Assign rule) = Unit {0}
+Fresh roles users (Entry.Revoke rule) = Unit {0}
+Fresh roles users (Entry.Goal set) = Unit {0}
+Fresh roles users Entry.End = Unit {0}
+
+-- a field that is a name and not declared
+field-new : (names : List Name) (field : List ℕ) → isName field ≡ true → not (isDeclared names field) ≡ true → New names (packed field)
+unfolding New isDeclared placed
+field-new names field form undeclared =
+    (record { field = field; form = form; packing = refl }, ltb-false (placeOf names (packed field)) (length names) (not-true (isDeclared names field) undeclared))
 
 -- a well formed line, by its fields
-entry-fresh : (c : Counts) (roles users : List Name) (line : Line) → wellFormed c roles users line ≡ true → Fresh roles (entry roles users line)
-unfolding wellFormed entry isDeclared placed
+entry-fresh : (c : Counts) (roles users : List Name) (line : Line) → wellFormed c roles users line ≡ true → Fresh roles users (entry roles users line)
+unfolding wellFormed entry
 entry-fresh c roles users (header edition) formed = tt
 entry-fresh c roles users (role name) formed =
     let parts = and-eq-true-iff (inOrder (c .stage) 1 && isName name) (not (isDeclared roles name)) .0 formed in
-    (record { field = name; form = and-eq-true-iff (inOrder (c .stage) 1) (isName name) .0 (parts .0) .1; packing = refl }, ltb-false (placeOf roles (packed name)) (length roles) (not-true (isDeclared roles name) (parts .1)))
-entry-fresh c roles users (user name clearance) formed = tt
+    field-new roles name (and-eq-true-iff (inOrder (c .stage) 1) (isName name) .0 (parts .0) .1) (parts .1)
+entry-fresh c roles users (user name clearance) formed =
+    let parts = and-eq-true-iff (inOrder (c .stage) 2 && isName name && isLabel clearance) (not (isDeclared users name)) .0 formed in
+    let ordered = and-eq-true-iff (inOrder (c .stage) 2 && isName name) (isLabel clearance) .0 (parts .0) .0 in
+    field-new users name (and-eq-true-iff (inOrder (c .stage) 2) (isName name) .0 ordered .1) (parts .1)
 entry-fresh c roles users (has holder held) formed = tt
 entry-fresh c roles users (assign admin positive negative target) formed = tt
 entry-fresh c roles users (revoke admin target) formed = tt
@@ -108,32 +121,43 @@ good-turn true false known e e′ good = absurd (let z : _≡_ {A = ℕ} 0 1 = c
 good-turn false limited known e e′ good = absurd (let z : _≡_ {A = ℕ} 0 1 = cc in omega arith)
 
 -- and so any good line
-good-fresh : (c : Counts) (roles users : List Name) (line : List ℕ) {e : Entry} → policyLine c roles users line ≡ PolicyLine.Good e → Fresh roles e
+good-fresh : (c : Counts) (roles users : List Name) (line : List ℕ) {e : Entry} → policyLine c roles users line ≡ PolicyLine.Good e → Fresh roles users e
 unfolding policyLine judged
 good-fresh c roles users line {e} good =
     let says = lineOf (split 9 line) in
     let told = good-turn (wellFormed c roles users says) (withinLimit c says) (declared roles users says) (entry roles users says) e good in
-    subst (Fresh roles) (told .1) (entry-fresh c roles users says (told .0))
+    subst (Fresh roles users) (told .1) (entry-fresh c roles users says (told .0))
 
--- what it adds keeps the names so
-added-named : (s : Said) (e : Entry) → Fresh (s .roles) e → Named (s .roles) → Named (added s e .roles)
-unfolding added
-added-named s Entry.Header fresh named = named
-added-named s (Entry.Role name) fresh named = named-more named (fresh .0) (fresh .1)
-added-named s (Entry.User name clearance) fresh named = named
-added-named s (Entry.Has holder held) fresh named = named
-added-named s (Entry.Assign rule) fresh named = named
-added-named s (Entry.Revoke rule) fresh named = named
-added-named s (Entry.Goal set) fresh named = named
-added-named s Entry.End fresh named = named
+-- both kinds of names
+record Both (s : Said) : Type 0 where
+  roles : Named (s .roles)
+  users : Named (s .users)
+
+-- what a line adds keeps the names so
+added-named : (s : Said) (e : Entry) → Fresh (s .roles) (s .users) e → Both s → Both (added s e)
+unfolding added New
+added-named s Entry.Header fresh both = record { roles = both .roles; users = both .users }
+added-named s (Entry.Role name) fresh both = record { roles = named-more (both .roles) (fresh .0) (fresh .1); users = both .users }
+added-named s (Entry.User name clearance) fresh both = record { roles = both .roles; users = named-more (both .users) (fresh .0) (fresh .1) }
+added-named s (Entry.Has holder held) fresh both = record { roles = both .roles; users = both .users }
+added-named s (Entry.Assign rule) fresh both = record { roles = both .roles; users = both .users }
+added-named s (Entry.Revoke rule) fresh both = record { roles = both .roles; users = both .users }
+added-named s (Entry.Goal set) fresh both = record { roles = both .roles; users = both .users }
+added-named s Entry.End fresh both = both
 
 -- no names
-named-none : Named (nothing .roles)
-unfolding nothing
+named-none : Named []
 named-none = record { spelt = λ name listed. absurd (not-nil listed); single = λ past place here. absurd (omega arith) }
 
--- The role names of a policy that is read.
+both-read : (text : List ℕ) {s : Said} → readPolicy text ≡ read s → Both s
+unfolding readPolicy nothing
+both-read text {s} is =
+    text-keeps judgeLine 11 Both (line-keeps Both (λ u line e told both. added-named u e (good-fresh (countsOf u) (u .roles) (u .users) line told) both)) 10 nothing s text is (record { roles = named-none; users = named-none })
+
+-- The role names of a policy that is read,
 pub names-read : (text : List ℕ) {s : Said} → readPolicy text ≡ read s → Named (s .roles)
-unfolding readPolicy
-names-read text {s} is =
-    text-keeps judgeLine 11 (λ u. Named (u .roles)) (line-keeps (λ u. Named (u .roles)) (λ u line e told named. added-named u e (good-fresh (countsOf u) (u .roles) (u .users) line told) named)) 10 nothing s text is named-none
+names-read text is = both-read text is .roles
+
+-- and its user names.
+pub users-read : (text : List ℕ) {s : Said} → readPolicy text ≡ read s → Named (s .users)
+users-read text is = both-read text is .users

@@ -27,11 +27,11 @@ use Rattle.rereading.specs.Fits.{Inside}
 use Rattle.rereading.specs.Sets.{set-form, set-declared, set-free, set-back}
 
 -- neither a tab nor LF stands in a field
-tab : Apart 9
+pub tab : Apart 9
 unfolding nameByte between free every
 tab = record { letter = refl; comma = refl; dash = refl }
 
-newline : Apart 10
+pub newline : Apart 10
 unfolding nameByte between free every
 newline = record { letter = refl; comma = refl; dash = refl }
 
@@ -51,18 +51,18 @@ free-tab s none = free-join 10 s (bytes "\t") none refl
 -- ---- the label
 
 -- it is a name as well, so that no mark stands in it
-label-name : (label : Bool) → isName (labelText label) ≡ true
+pub label-name : (label : Bool) → isName (labelText label) ≡ true
 unfolding labelText isName every nameByte between
 label-name true = refl
 label-name false = refl
 
 -- it is a label, and is read back
-label-form : (label : Bool) → isLabel (labelText label) ≡ true
+pub label-form : (label : Bool) → isLabel (labelText label) ≡ true
 unfolding labelText isLabel sameBytes
 label-form true = refl
 label-form false = refl
 
-label-back : (label : Bool) → sameBytes (labelText label) (bytes "H") ≡ label
+pub label-back : (label : Bool) → sameBytes (labelText label) (bytes "H") ≡ label
 unfolding labelText sameBytes
 label-back true = refl
 label-back false = refl

@@ -11,7 +11,6 @@ use Rattle.steps.specs.declared.Step.{Step}
 use Rattle.steps.specs.Tests.{mayAssign, mayRevoke, withTarget, withoutTarget}
 use Rattle.steps.specs.Traces.{assignAt, revokeAt, possible, after}
 use Rattle.steps.specs.Arrays.{assign-may, revoke-may, assign-after, revoke-after, person-taken, assign-taken, revoke-taken}
-use Rattle.traces.specs.declared.TraceEntry.{TraceEntry}
 use Rattle.running.specs.declared.Tried.{Tried}
 use Rattle.running.specs.Range.{Ranged}
 
@@ -25,20 +24,20 @@ triedIn assigns revokes persons (Step.Revoke actor rule user) =
 
 module _ (assigns revokes users : ℕ) (rules : List Assign) (others : List Revoke) (persons : List Person) where
   -- A step in range is tried over the first elements as over all,
-  pub tried-taken : (step : Step) → Ranged assigns revokes users (TraceEntry.Step step) → triedIn (take assigns rules) (take revokes others) (take users persons) step ≡ triedIn rules others persons step
+  pub tried-taken : (step : Step) → Ranged assigns revokes users step → triedIn (take assigns rules) (take revokes others) (take users persons) step ≡ triedIn rules others persons step
   unfolding triedIn person
   tried-taken (Step.Assign actor rule user) r = rw (assign-taken rules assigns (r .ruled), person-taken persons users (r .acts), person-taken persons users (r .used))
   tried-taken (Step.Revoke actor rule user) r = rw (revoke-taken others revokes (r .ruled), person-taken persons users (r .acts), person-taken persons users (r .used))
 
   -- on one of the users;
-  pub tried-place : (step : Step) → Ranged assigns revokes users (TraceEntry.Step step) → triedIn rules others persons step .place < users
+  pub tried-place : (step : Step) → Ranged assigns revokes users step → triedIn rules others persons step .place < users
   unfolding triedIn
   tried-place (Step.Assign actor rule user) r = r .used
   tried-place (Step.Revoke actor rule user) r = r .used
 
 module _ (assigns : List Assign) (revokes : List Revoke) (σ : State) where
   -- it is possible where the trial says so,
-  pub tried-possible : (step : Step) → Ranged (length assigns) (length revokes) (length σ) (TraceEntry.Step step) → possible assigns revokes σ step ≡ triedIn assigns revokes σ step .possible
+  pub tried-possible : (step : Step) → Ranged (length assigns) (length revokes) (length σ) step → possible assigns revokes σ step ≡ triedIn assigns revokes σ step .possible
   unfolding triedIn
   tried-possible (Step.Assign actor rule user) r = assign-may assigns revokes σ actor rule user (r .ruled) (r .acts) (r .used)
   tried-possible (Step.Revoke actor rule user) r = revoke-may assigns revokes σ actor rule user (r .ruled) (r .acts) (r .used)

@@ -14,9 +14,9 @@ use steps::given;
 use steps::may_assign;
 use steps::may_revoke;
 use steps::taken;
-use traces::TraceEntry;
 use traces::TraceLine;
 use traces::code;
+use traces::has_header;
 use traces::read_line;
 
 // The verdict on a trace.
@@ -82,56 +82,50 @@ pub fn run_trace(text: &[u8], users: &[u64], people: [Person; 64], p: Rules) -> 
     if 32768 < end {
         return TraceVerdict::Refused(14, 0);
     }
+    if !has_header(text) {
+        return TraceVerdict::Refused(15, 1);
+    }
     let c = p.counts;
-    let goals = p.goals;
     let mut persons = people;
-    let mut started = false;
     let mut steps = 0;
     let mut broken = 0;
-    let mut at = 0;
-    let mut number = 1;
+    let mut at = 8;
+    let mut number = 2;
     while at < end {
         let stop = text::seek(text, at, b'\n');
         if stop == end {
             return TraceVerdict::Refused(15, number);
         }
-        let answer = read_line(&text[at..stop], users, c, started);
+        let line = &text[at..stop];
         let here = number;
         at = stop + 1;
         number += 1;
-        let TraceLine::Good(entry) = answer else {
+        if text::same(line, b"end") {
+            if at < end {
+                return TraceVerdict::Refused(15, number);
+            }
+            return ending(broken, steps, first_bad(persons, c.users, p.goals, c.goals));
+        }
+        let answer = read_line(line, users, c);
+        let TraceLine::Step(step) = answer else {
             return TraceVerdict::Refused(code(answer), here);
         };
-        match entry {
-            TraceEntry::Header => {
-                started = true;
-            }
-            TraceEntry::Step(step) => {
-                steps += 1;
-                if broken == 0 {
-                    let tried = match step {
-                        Step::Assign { actor, rule, user } => {
-                            try_assign(p.assigns[rule], persons[actor], persons[user], user)
-                        }
-                        Step::Revoke { actor, rule, user } => {
-                            try_revoke(p.revokes[rule], persons[actor], persons[user], user)
-                        }
-                    };
-                    if tried.possible {
-                        let place = tried.place;
-                        let user = tried.user;
-                        persons[place] = user;
-                    } else {
-                        broken = steps;
-                    }
+        steps += 1;
+        if broken == 0 {
+            let tried = match step {
+                Step::Assign { actor, rule, user } => {
+                    try_assign(p.assigns[rule], persons[actor], persons[user], user)
                 }
-            }
-            TraceEntry::End => {
-                if at < end {
-                    return TraceVerdict::Refused(15, number);
+                Step::Revoke { actor, rule, user } => {
+                    try_revoke(p.revokes[rule], persons[actor], persons[user], user)
                 }
-                let found = first_bad(persons, c.users, goals, c.goals);
-                return ending(broken, steps, found);
+            };
+            if tried.possible {
+                let place = tried.place;
+                let user = tried.user;
+                persons[place] = user;
+            } else {
+                broken = steps;
             }
         }
     }

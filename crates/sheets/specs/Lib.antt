@@ -7,3 +7,4 @@ pub mod Joining
 pub mod Noting
 pub mod Laying
 pub mod Members
+pub mod Whole

@@ -3,9 +3,10 @@ ghost use mathlib.Core.Path.{_≡_};
 ghost use Prim.Native.Nat.{ℕ, _<_, min};
 ghost use mathlib.Core.Bool.{cond};
 ghost use lib.Dec.{eqb};
+ghost use lib.ListN.{length};
 ghost use Rattle.roles.specs.Sets.{hasRole, singleOf};
-ghost use Rattle.sheets.specs.Turned.{addIf, setsOf, turnedOf};
-ghost use Rattle.sheets.specs.Words.{setIn, turnedIn};
+ghost use Rattle.sheets.specs.Turned.{addIf, setsOf};
+ghost use Rattle.sheets.specs.Words.{setIn, sheetOf};
 use model::Typing;
 use roles::RoleSet;
 
@@ -71,6 +72,7 @@ pub fn sets_of(table: &[u64; 256], members: RoleSet) -> RoleSet
 // Puts a role's set into a table.
 fn put(table: &mut [u64; 256], role: usize, set: RoleSet)
     requires { ⌜ role < 128 ⌝ }
+    ensures { λ r. ⌜ length (now (table .exit)) ≡ length (now (table .entry)) ⌝ }
     ensures { λ r. ⌜ ((other : ℕ) → setIn (now (table .exit)) other ≡ cond (eqb other role) set (setIn (now (table .entry)) other)) ⌝ }
 {
     let words: &mut [u64] = table;
@@ -80,6 +82,7 @@ fn put(table: &mut [u64; 256], role: usize, set: RoleSet)
 
 // Adds a role to the set that each of the members has in a table.
 fn note(table: &mut [u64; 256], members: RoleSet, role: usize)
+    ensures { λ r. ⌜ length (now (table .exit)) ≡ length (now (table .entry)) ⌝ }
     ensures { λ r. ⌜ ((other : ℕ) → setIn (now (table .exit)) other ≡ addIf (hasRole members other) (singleOf role) (setIn (now (table .entry)) other)) ⌝ }
 {
     let mut left = members;
@@ -96,7 +99,7 @@ fn note(table: &mut [u64; 256], members: RoleSet, role: usize)
 
 // The sheet of a typing over its first roles.
 pub fn lay_out(t: Typing, roles: usize) -> Sheet
-    ensures { λ r. ⌜ turnedIn r ≡ turnedOf t roles ⌝ }
+    ensures { λ r. ⌜ r ≡ sheetOf t roles ⌝ }
 {
     let count = limited(roles);
     let mut sheet = Sheet {

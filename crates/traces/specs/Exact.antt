@@ -1,59 +1,90 @@
 -- When a trace is refused, in document 01's words, and that reading answers exactly so.
-use Prim.Native.Nat.{ℕ}
-use mathlib.Core.Bool.{Bool, true, false, true≢false}
+use Prim.Native.Nat.{ℕ, _-_}
+use mathlib.Core.Bool.{Bool, true, false, cond, _||_}
 use mathlib.Core.List.{List, [], _∷_, _++_}
 use mathlib.Core.Logic.{_↔_}
-use mathlib.Core.Path.{_≡_, refl, sym}
+use mathlib.Core.Path.{_≡_, refl, subst⁻¹}
 use Rattle.tables.specs.declared.Name.{Name}
-use Rattle.text.specs.Pieces.{split}
+use Rattle.text.specs.Forms.{bytes, numberOf}
+use Rattle.text.specs.Pieces.{split, onto, sameBytes, same-equal}
+use Rattle.fields.specs.Fields.{placed}
 use Rattle.fields.specs.Turns.{turnOf}
-use Rattle.reading.specs.Texts.{read, refused}
+use Rattle.reading.specs.Texts.{goes, ends, bad, read, refused}
 use Rattle.reading.specs.Exact.{refusal-exact, read-exact}
 use Rattle.reading.specs.Evidence.{turned, EvidenceRefusal, EvidenceReadAs, refusal-means, reading-means}
-use Rattle.traces.specs.declared.TraceEntry.{TraceEntry}
+use Rattle.steps.specs.declared.Step.{Step}
 use Rattle.traces.specs.TraceLines as trace
 use Rattle.traces.specs.TraceText.{Traced, untraced, readTrace}
 use Rattle.traces.specs.TraceText as traces
 
--- Whether a line by its fields is `end`.
-unfoldable pub lastStep : trace.Line → Bool
-lastStep (trace.header edition) = false
-lastStep (trace.assign actor number user) = false
-lastStep (trace.revoke actor number user) = false
-lastStep trace.end = true
-lastStep trace.other = false
+-- A step line is well formed: an assign step or a revoke step.
+unfoldable pub stepFormed : trace.Line → Bool
+stepFormed (trace.assign actor number user) = trace.isStep actor number user
+stepFormed (trace.revoke actor number user) = trace.isStep actor number user
+stepFormed trace.other = false
 
--- what the steps say with one line more
-stepAdded : TraceEntry → Traced → Traced
-stepAdded TraceEntry.Header s = record { started = true; steps = s .steps }
-stepAdded (TraceEntry.Step step) s = record { started = s .started; steps = s .steps ++ (step ∷ []) }
-stepAdded TraceEntry.End s = s
+-- It names users and a rule of the policy.
+unfoldable pub stepKnown : (assigns revokes : ℕ) → List Name → trace.Line → Bool
+stepKnown assigns revokes users (trace.assign actor number user) = trace.stepNamed assigns users actor number user
+stepKnown assigns revokes users (trace.revoke actor number user) = trace.stepNamed revokes users actor number user
+stepKnown assigns revokes users trace.other = true
+
+-- what the tests of a step line make of it
+answer-tells : (s : Traced) (formed known : Bool) (step : Step)
+    → traces.answered s (trace.answerTo (turnOf formed known) step) ≡ turned formed known false (record { started = true; steps = s .steps ++ (step ∷ []) })
+unfolding traces.answered trace.answerTo turnOf turned
+answer-tells s false known step = refl
+answer-tells s true false step = refl
+answer-tells s true true step = refl
 
 module _ (assigns revokes : ℕ) (users : List Name) where
-  -- The tests of a trace line, after what the lines above say.
+  -- The tests of a trace line, after what the lines above say. The header first, then steps, then `end`;
   abbrev pub traceFormed : Traced → List ℕ → Bool
-  traceFormed s line = trace.wellFormed (s .started) (trace.lineOf (split 9 line))
+  traceFormed s line = cond (s .started) (sameBytes line (bytes "end") || stepFormed (trace.lineOf (split 9 line))) (sameBytes line (bytes "trace\t1"))
 
+  -- a step names users and a rule of the policy;
   abbrev pub traceNamed : Traced → List ℕ → Bool
-  traceNamed s line = trace.named assigns revokes users (trace.lineOf (split 9 line))
+  traceNamed s line = stepKnown assigns revokes users (trace.lineOf (split 9 line))
 
+  -- `end` is the last line.
   abbrev pub traceLast : Traced → List ℕ → Bool
-  traceLast s line = lastStep (trace.lineOf (split 9 line))
+  traceLast s line = sameBytes line (bytes "end")
 
-  trace-tells : (s : Traced) (line : List ℕ)
-      → traces.judgeLine assigns revokes users s line ≡ turned (traceFormed s line) (traceNamed s line) (traceLast s line) (stepAdded (trace.entry users (trace.lineOf (split 9 line))) s)
-  unfolding traces.judgeLine traces.answered traces.added trace.traceLine trace.judged trace.answerTo turnOf turned lastStep stepAdded trace.entry trace.wellFormed
-  trace-tells s line = go (trace.lineOf (split 9 line)) (trace.wellFormed (s .started) (trace.lineOf (split 9 line))) refl (trace.named assigns revokes users (trace.lineOf (split 9 line)))
+  -- what the steps say with one line more
+  added : Traced → trace.Line → Traced
+  added s (trace.assign actor number user) = record { started = true; steps = s .steps ++ (Step.Assign (placed users actor) (numberOf number - 1) (placed users user) ∷ []) }
+  added s (trace.revoke actor number user) = record { started = true; steps = s .steps ++ (Step.Revoke (placed users actor) (numberOf number - 1) (placed users user) ∷ []) }
+  added s trace.other = record { started = true; steps = s .steps }
+
+  header-tells : (s : Traced) (line : List ℕ) (b : Bool) → sameBytes line (bytes "trace\t1") ≡ b
+      → cond b (goes (record { started = true; steps = s .steps })) (bad 15) ≡ turned b (traceNamed s line) (traceLast s line) (added s (trace.lineOf (split 9 line)))
+  unfolding turned added sameBytes split onto trace.lineOf stepKnown
+  header-tells s line true is =
+      subst⁻¹ (λ (l : List ℕ). goes (record { started = true; steps = s .steps }) ≡ turned true (traceNamed s l) (traceLast s l) (added s (trace.lineOf (split 9 l)))) (same-equal line (bytes "trace\t1") is) refl
+  header-tells s line false is = refl
+
+  step-tells : (s : Traced) (f : trace.Line) → traces.answered s (trace.judged assigns revokes users f) ≡ turned (stepFormed f) (stepKnown assigns revokes users f) false (added s f)
+  unfolding trace.judged stepFormed stepKnown turned added traces.answered
+  step-tells s (trace.assign actor number user) = answer-tells s (trace.isStep actor number user) (trace.stepNamed assigns users actor number user) (Step.Assign (placed users actor) (numberOf number - 1) (placed users user))
+  step-tells s (trace.revoke actor number user) = answer-tells s (trace.isStep actor number user) (trace.stepNamed revokes users actor number user) (Step.Revoke (placed users actor) (numberOf number - 1) (placed users user))
+  step-tells s trace.other = refl
+
+  later-tells : (s : Traced) (line : List ℕ) (b : Bool) → sameBytes line (bytes "end") ≡ b
+      → cond b ends (traces.answered s (trace.traceLine assigns revokes users line)) ≡ turned (b || stepFormed (trace.lineOf (split 9 line))) (traceNamed s line) b (added s (trace.lineOf (split 9 line)))
+  unfolding turned split onto trace.lineOf stepKnown trace.traceLine
+  later-tells s line true is =
+      subst⁻¹ (λ (l : List ℕ). ends ≡ turned true (traceNamed s l) true (added s (trace.lineOf (split 9 l)))) (same-equal line (bytes "end") is) refl
+  later-tells s line false is = step-tells s (trace.lineOf (split 9 line))
+
+  trace-tells : (s : Traced) (line : List ℕ) → traces.judgeLine assigns revokes users s line ≡ turned (traceFormed s line) (traceNamed s line) (traceLast s line) (added s (trace.lineOf (split 9 line)))
+  unfolding traces.judgeLine traces.headerLine traces.laterLine
+  trace-tells s line = go (s .started)
     where
-      go : (f : trace.Line) (formed : Bool) → trace.wellFormed (s .started) f ≡ formed → (known : Bool)
-          → traces.answered s (trace.answerTo (turnOf formed known) (trace.entry users f)) ≡ turned formed known (lastStep f) (stepAdded (trace.entry users f) s)
-      go f false is known = refl
-      go f true is false = refl
-      go (trace.header edition) true is true = refl
-      go (trace.assign actor number user) true is true = refl
-      go (trace.revoke actor number user) true is true = refl
-      go trace.end true is true = refl
-      go trace.other true is true = absurd (true≢false (sym is))
+      go : (b : Bool)
+          → cond b (traces.laterLine assigns revokes users s line) (traces.headerLine s line)
+          ≡ turned (cond b (sameBytes line (bytes "end") || stepFormed (trace.lineOf (split 9 line))) (sameBytes line (bytes "trace\t1"))) (traceNamed s line) (traceLast s line) (added s (trace.lineOf (split 9 line)))
+      go true = later-tells s line (sameBytes line (bytes "end")) refl
+      go false = header-tells s line (sameBytes line (bytes "trace\t1")) refl
 
   abbrev pub TraceRefusal : (text : List ℕ) (number line : ℕ) → Type 0
   TraceRefusal text = EvidenceRefusal (traces.judgeLine assigns revokes users) traceFormed traceNamed traceLast untraced text

@@ -1,5 +1,7 @@
 -- What a trace text is read into, and which line is refused.
 pub mod TraceLines
 pub mod TraceText
+pub mod TraceWalk
 pub mod TraceReached
 pub mod Exact
+pub mod Worked

@@ -1,8 +1,8 @@
--- One line of a trace: when it is malformed, and when it names what it must not (document 01, "The texts").
+-- One step line of a trace: when it is malformed, and when it names what it must not (document 01, "The texts").
 use Prim.Native.Nat.{ℕ, zero, suc, _-_}
 use mathlib.Core.Bool.{Bool, true, false, cond, not, _&&_, _||_, or-false}
 use mathlib.Core.List.{List, [], _∷_}
-use mathlib.Core.Path.{_≡_, refl, sym, ap, ap₂, _∙_}
+use mathlib.Core.Path.{_≡_, refl, sym, ap, _∙_}
 use lib.Dec.{leb, ltb, eqb}
 use lib.ListN.{length}
 use Rattle.tables.specs.declared.Name.{Name}
@@ -10,32 +10,25 @@ use Rattle.text.specs.Forms.{bytes, isName, numberOf}
 use Rattle.text.specs.Pieces.{split, sameBytes}
 use Rattle.steps.specs.declared.Step.{Step}
 use Rattle.fields.specs.Fields.{placed, isDeclared}
-use Rattle.traces.specs.declared.TraceEntry.{TraceEntry}
 use Rattle.traces.specs.declared.TraceLine.{TraceLine}
 use Rattle.fields.specs.Turns.{turnOf}
 
--- A line by its fields.
+-- A step line by its fields: an assign step, a revoke step, or neither.
 pub data Line : Type 0 where
-  header : (edition : List ℕ) → Line
   assign : (actor number user : List ℕ) → Line
   revoke : (actor number user : List ℕ) → Line
-  end : Line
   other : Line
 
-unfoldable pub fourFields : (word first second third : List ℕ) → Line
-fourFields word first second third =
-    cond (sameBytes word (bytes "assign")) (assign first second third) (cond (sameBytes word (bytes "revoke")) (revoke first second third) other)
+-- `assign` or `revoke`, actor, number, user.
+unfoldable pub fourFields : (word actor number user : List ℕ) → Line
+fourFields word actor number user =
+    cond (sameBytes word (bytes "assign")) (assign actor number user) (cond (sameBytes word (bytes "revoke")) (revoke actor number user) other)
 
-unfoldable pub oneField : List ℕ → Line
-oneField word = cond (sameBytes word (bytes "end")) end other
-
-unfoldable pub twoFields : (word field : List ℕ) → Line
-twoFields word field = cond (sameBytes word (bytes "trace")) (header field) other
-
+-- Any other number of fields is no step.
 unfoldable pub lineOf : List (List ℕ) → Line
 lineOf [] = other
-lineOf (w ∷ []) = oneField w
-lineOf (w ∷ a ∷ []) = twoFields w a
+lineOf (w ∷ []) = other
+lineOf (w ∷ a ∷ []) = other
 lineOf (w ∷ a ∷ b ∷ []) = other
 lineOf (w ∷ a ∷ b ∷ c ∷ []) = fourFields w a b c
 lineOf (w ∷ a ∷ b ∷ c ∷ d ∷ more) = other
@@ -48,101 +41,58 @@ isStep actor number user = isName actor && isName user && not (eqb (numberOf num
 unfoldable pub stepNamed : (rules : ℕ) → List Name → (actor number user : List ℕ) → Bool
 stepNamed rules users actor number user = isDeclared users actor && isDeclared users user && leb (numberOf number) rules
 
--- The header first, then steps, then `end`; `started` after the header.
-unfoldable pub wellFormed : (started : Bool) → Line → Bool
-wellFormed started (header edition) = not started && sameBytes edition (bytes "1")
-wellFormed started (assign actor number user) = started && isStep actor number user
-wellFormed started (revoke actor number user) = started && isStep actor number user
-wellFormed started end = started
-wellFormed started other = false
+-- the step where there is no refusal, and else the refusal's number
+unfoldable pub answerTo : ℕ → Step → TraceLine
+answerTo zero step = TraceLine.Step step
+answerTo (suc number) step = TraceLine.Bad (suc number)
 
-unfoldable pub named : (assigns revokes : ℕ) → List Name → Line → Bool
-named assigns revokes users (header edition) = true
-named assigns revokes users (assign actor number user) = stepNamed assigns users actor number user
-named assigns revokes users (revoke actor number user) = stepNamed revokes users actor number user
-named assigns revokes users end = true
-named assigns revokes users other = true
+-- The line's step, by places from 0, or its refusal: malformed, then names.
+unfoldable pub judged : (assigns revokes : ℕ) → List Name → Line → TraceLine
+judged assigns revokes users (assign actor number user) =
+    answerTo (turnOf (isStep actor number user) (stepNamed assigns users actor number user)) (Step.Assign (placed users actor) (numberOf number - 1) (placed users user))
+judged assigns revokes users (revoke actor number user) =
+    answerTo (turnOf (isStep actor number user) (stepNamed revokes users actor number user)) (Step.Revoke (placed users actor) (numberOf number - 1) (placed users user))
+judged assigns revokes users other = TraceLine.Bad 15
 
--- What the line says: places from 0.
-unfoldable pub entry : List Name → Line → TraceEntry
-entry users (header edition) = TraceEntry.Header
-entry users (assign actor number user) = TraceEntry.Step (Step.Assign (placed users actor) (numberOf number - 1) (placed users user))
-entry users (revoke actor number user) = TraceEntry.Step (Step.Revoke (placed users actor) (numberOf number - 1) (placed users user))
-entry users end = TraceEntry.End
-entry users other = TraceEntry.End
+-- A step line, judged by its fields.
+unfoldable pub traceLine : (assigns revokes : ℕ) → List Name → List ℕ → TraceLine
+traceLine assigns revokes users line = judged assigns revokes users (lineOf (split 9 line))
 
--- the entry where there is no refusal, and else the refusal's number
-unfoldable pub answerTo : ℕ → TraceEntry → TraceLine
-answerTo zero e = TraceLine.Good e
-answerTo (suc number) e = TraceLine.Bad (suc number)
+-- ---- a step line, from what a reader finds
 
-unfoldable pub judged : (started : Bool) (assigns revokes : ℕ) → List Name → Line → TraceLine
-judged started assigns revokes users line = answerTo (turnOf (wellFormed started line) (named assigns revokes users line)) (entry users line)
-
-unfoldable pub traceLine : (started : Bool) (assigns revokes : ℕ) → List Name → List ℕ → TraceLine
-traceLine started assigns revokes users line = judged started assigns revokes users (lineOf (split 9 line))
-
--- ---- each kind of line, from what a reader finds
-
+-- an assign step, and else a revoke step
 unfoldable pub stepOf : (assigning : Bool) (actor rule user : ℕ) → Step
 stepOf true actor rule user = Step.Assign actor rule user
 stepOf false actor rule user = Step.Revoke actor rule user
 
-pub answer-good : (number : ℕ) (e : TraceEntry) → number ≡ 0 → TraceLine.Good e ≡ answerTo number e
+pub answer-step : (number : ℕ) (step : Step) → number ≡ 0 → TraceLine.Step step ≡ answerTo number step
 unfolding answerTo
-answer-good number e none = sym (ap (λ (n : ℕ). answerTo n e) none)
+answer-step number step none = sym (ap (λ (n : ℕ). answerTo n step) none)
 
-pub answer-bad : (number : ℕ) (e : TraceEntry) → (number ≡ 0 → ⊥) → TraceLine.Bad number ≡ answerTo number e
+pub answer-bad : (number : ℕ) (step : Step) → (number ≡ 0 → ⊥) → TraceLine.Bad number ≡ answerTo number step
 unfolding answerTo
-answer-bad zero e some = absurd (some refl)
-answer-bad (suc number) e some = refl
+answer-bad zero step some = absurd (some refl)
+answer-bad (suc number) step some = refl
 
-module _ (started : Bool) (assigns revokes : ℕ) (users : List Name) where
-  pub end-judged : (word : List ℕ) {number : ℕ} {is : Bool} {answer : TraceLine} → is ≡ sameBytes word (bytes "end") → number ≡ turnOf (is && started) true → answer ≡ answerTo number TraceEntry.End
-      → answer ≡ judged started assigns revokes users (oneField word)
-  unfolding judged wellFormed named entry oneField turnOf answerTo
-  end-judged word same told given =
-      given ∙ ap (λ (n : ℕ). answerTo n TraceEntry.End) (told ∙ ap (λ (b : Bool). turnOf (b && started) true) same) ∙ go (sameBytes word (bytes "end"))
-    where
-      go : (b : Bool) → answerTo (turnOf (b && started) true) TraceEntry.End ≡ judged started assigns revokes users (cond b end other)
-      go true = refl
-      go false = refl
-
-  pub header-judged : (word edition : List ℕ) {number : ℕ} {is one : Bool} {answer : TraceLine} → is ≡ sameBytes word (bytes "trace") → one ≡ sameBytes edition (bytes "1")
-      → number ≡ turnOf ((is && not started) && one) true → answer ≡ answerTo number TraceEntry.Header → answer ≡ judged started assigns revokes users (twoFields word edition)
-  unfolding judged wellFormed named entry twoFields turnOf answerTo
-  header-judged word edition same first told given =
-      given ∙ ap (λ (n : ℕ). answerTo n TraceEntry.Header) (told ∙ ap₂ (λ (b o : Bool). turnOf ((b && not started) && o) true) same first) ∙ go (sameBytes word (bytes "trace"))
-    where
-      go : (b : Bool) → answerTo (turnOf ((b && not started) && sameBytes edition (bytes "1")) true) TraceEntry.Header ≡ judged started assigns revokes users (cond b (header edition) other)
-      go true = refl
-      go false = refl
-
+module _ (assigns revokes : ℕ) (users : List Name) where
   -- a step's two tests and its places, whatever the kind
   pub step-judged : (word actor number user : List ℕ) {a u n rule count turned : ℕ} {is is′ assigning revoking : Bool} {step : Step} {answer : TraceLine} → assigning ≡ sameBytes word (bytes "assign")
       → revoking ≡ sameBytes word (bytes "revoke") → length users ≡ count → a ≡ placed users actor → u ≡ placed users user → n ≡ numberOf number → is ≡ isName actor → is′ ≡ isName user
-      → turned
-      ≡ turnOf ((assigning || revoking) && (started && ((is && is′) && not (eqb n 0)))) ((ltb a count && ltb u count) && ((assigning && leb n assigns) || (not assigning && leb n revokes)))
-      → rule ≡ n - 1 → step ≡ stepOf assigning a rule u → answer ≡ answerTo turned (TraceEntry.Step step) → answer ≡ judged started assigns revokes users (fourFields word actor number user)
-  unfolding judged wellFormed named entry fourFields isStep stepNamed isDeclared stepOf answerTo turnOf
+      → turned ≡ turnOf ((assigning || revoking) && ((is && is′) && not (eqb n 0))) ((ltb a count && ltb u count) && ((assigning && leb n assigns) || (not assigning && leb n revokes)))
+      → rule ≡ n - 1 → step ≡ stepOf assigning a rule u → answer ≡ answerTo turned step → answer ≡ judged assigns revokes users (fourFields word actor number user)
+  unfolding judged fourFields isStep stepNamed isDeclared stepOf answerTo turnOf
   step-judged word actor number user kind kind′ many at at′ value formed formed′ told place made given =
       (cc) ∙ go (sameBytes word (bytes "assign")) (sameBytes word (bytes "revoke"))
     where
       go : (b d : Bool)
-          → answerTo (turnOf ((b || d) && (started && isStep actor number user)) ((isDeclared users actor && isDeclared users user) && ((b && leb (numberOf number) assigns) || (not b && leb (numberOf number) revokes))))
-          (TraceEntry.Step (stepOf b (placed users actor) (numberOf number - 1) (placed users user)))
-          ≡ judged started assigns revokes users (cond b (assign actor number user) (cond d (revoke actor number user) other))
+          → answerTo (turnOf ((b || d) && isStep actor number user) ((isDeclared users actor && isDeclared users user) && ((b && leb (numberOf number) assigns) || (not b && leb (numberOf number) revokes))))
+          (stepOf b (placed users actor) (numberOf number - 1) (placed users user))
+          ≡ judged assigns revokes users (cond b (assign actor number user) (cond d (revoke actor number user) other))
       go true d = rw or-false
       go false true = refl
       go false false = refl
 
-  pub other-judged : TraceLine.Bad 15 ≡ judged started assigns revokes users other
-  unfolding judged answerTo turnOf wellFormed
-  other-judged = refl
-
--- ---- the fields of a line
-
-pub by-fields : (started : Bool) (assigns revokes : ℕ) (users : List Name) (line : List ℕ) {fields : List (List ℕ)} → split 9 line ≡ fields
-    → judged started assigns revokes users (lineOf fields) ≡ traceLine started assigns revokes users line
-unfolding traceLine
-by-fields started assigns revokes users line cut = sym (ap (λ (l : List (List ℕ)). judged started assigns revokes users (lineOf l)) cut)
+  -- the fields of a line
+  pub by-fields : (line : List ℕ) {fields : List (List ℕ)} → split 9 line ≡ fields → judged assigns revokes users (lineOf fields) ≡ traceLine assigns revokes users line
+  unfolding traceLine
+  by-fields line cut = sym (ap (λ (l : List (List ℕ)). judged assigns revokes users (lineOf l)) cut)

@@ -1,12 +1,13 @@
--- A whole trace text: its steps in order.
+-- A whole trace text: the header, its steps in order, and `end`.
 use Prim.Native.Nat.{ℕ}
-use mathlib.Core.Bool.{Bool, true, false}
+use mathlib.Core.Bool.{Bool, true, false, cond}
 use mathlib.Core.List.{List, [], _∷_, _++_}
-use lib.ListN.{length}
+use lib.ListN.{length, take}
 use Rattle.tables.specs.declared.Name.{Name}
+use Rattle.text.specs.Forms.{bytes}
+use Rattle.text.specs.Pieces.{sameBytes}
 use Rattle.steps.specs.declared.Step.{Step}
 use Rattle.reading.specs.Texts.{Judged, goes, ends, bad, Reading, read, refused, readText}
-use Rattle.traces.specs.declared.TraceEntry.{TraceEntry}
 use Rattle.traces.specs.declared.TraceLine.{TraceLine}
 use Rattle.traces.specs.declared.TraceRead.{TraceRead}
 use Rattle.traces.specs.TraceLines.{traceLine}
@@ -20,33 +21,47 @@ pub record Traced : Type 0 where
 unfoldable pub untraced : Traced
 untraced = record { started = false; steps = [] }
 
-unfoldable pub added : Traced → TraceEntry → Judged Traced
-added s TraceEntry.Header = goes (record { started = true; steps = s .steps })
-added s (TraceEntry.Step step) = goes (record { started = s .started; steps = s .steps ++ (step ∷ []) })
-added s TraceEntry.End = ends
+-- The first line is the header, `trace` `1`.
+unfoldable pub headerLine : Traced → List ℕ → Judged Traced
+headerLine s line = cond (sameBytes line (bytes "trace\t1")) (goes (record { started = true; steps = s .steps })) (bad 15)
 
--- the refusal's number of a line that is not good
-unfoldable pub codeOf : TraceLine → ℕ
-codeOf (TraceLine.Good e) = 0
-codeOf (TraceLine.Bad number) = number
-
+-- A step goes after those above.
 unfoldable pub answered : Traced → TraceLine → Judged Traced
-answered s (TraceLine.Good e) = added s e
+answered s (TraceLine.Step step) = goes (record { started = true; steps = s .steps ++ (step ∷ []) })
 answered s (TraceLine.Bad number) = bad number
 
+-- After the header a line is `end` or a step line.
+unfoldable pub laterLine : (assigns revokes : ℕ) → List Name → Traced → List ℕ → Judged Traced
+laterLine assigns revokes users s line = cond (sameBytes line (bytes "end")) ends (answered s (traceLine assigns revokes users line))
+
+-- The header first, then steps, then `end`.
 unfoldable pub judgeLine : (assigns revokes : ℕ) → List Name → Traced → List ℕ → Judged Traced
-judgeLine assigns revokes users s line = answered s (traceLine (s .started) assigns revokes users line)
+judgeLine assigns revokes users s line = cond (s .started) (laterLine assigns revokes users s line) (headerLine s line)
 
 -- The whole text over the policy's users and rule counts: 14 where it is too long, 15 where `end` is missing or not the last line.
 unfoldable pub readTrace : (assigns revokes : ℕ) → List Name → List ℕ → Reading Traced
 readTrace assigns revokes users text = readText (judgeLine assigns revokes users) 15 14 untraced text
 
+-- ---- as a program reads it
+
+-- The text begins with `trace`, a tab, `1` and LF.
+unfoldable pub hasHeader : List ℕ → Bool
+hasHeader text = sameBytes (take 8 text) (bytes "trace\t1\n")
+
+-- the refusal's number of a line that is not a step
+unfoldable pub codeOf : TraceLine → ℕ
+codeOf (TraceLine.Step step) = 0
+codeOf (TraceLine.Bad number) = number
+
+-- a refused text has no steps
 unfoldable pub refusedTrace : (number line : ℕ) → TraceRead
 refusedTrace number line = record { refusal = number; line = line; steps = 0 }
 
+-- the number of steps of a text that is read
 unfoldable pub answerOf : Reading Traced → TraceRead
 answerOf (read s) = record { refusal = 0; line = 0; steps = length (s .steps) }
 answerOf (refused number line) = refusedTrace number line
 
+-- the refusal of a text, or the number of its steps
 unfoldable pub traceRead : (assigns revokes : ℕ) → List Name → List ℕ → TraceRead
 traceRead assigns revokes users text = answerOf (readTrace assigns revokes users text)

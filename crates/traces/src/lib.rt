@@ -1,26 +1,17 @@
 // A trace text, read line by line over the policy's user names and rule counts.
-ghost use mathlib.Core.List.{List};
 ghost use mathlib.Core.Path.{_≡_};
-ghost use Prim.Native.Nat.{ℕ, _*_, _-_, _≤_};
+ghost use Prim.Native.Nat.{_*_, _-_, _≤_};
 ghost use lib.ListN.{length};
-ghost use Rattle.tables.specs.declared.Name.{Name};
 ghost use Rattle.tables.specs.Names.{rows};
-ghost use Rattle.traces.specs.TraceLines.{oneField, twoFields, fourFields, answerTo, judged, traceLine, stepOf};
-ghost use Rattle.traces.specs.TraceText.{codeOf, refusedTrace, traceRead};
+ghost use Rattle.traces.specs.TraceLines.{fourFields, answerTo, judged, traceLine, stepOf};
+ghost use Rattle.traces.specs.TraceText.{hasHeader, codeOf, refusedTrace, traceRead};
 use fields::turns::turn;
 use lines::Counts;
 use steps::Step;
 
-// What a good line says.
-pub enum TraceEntry {
-    Header,
-    Step(Step),
-    End,
-}
-
-// A line's answer: what it says, or the refusal's number.
+// A step line's answer: the step, or the refusal's number.
 pub enum TraceLine {
-    Good(TraceEntry),
+    Step(Step),
     Bad(u64),
 }
 
@@ -31,12 +22,12 @@ pub struct TraceRead {
     pub steps: usize,
 }
 
-// The entry where there is no refusal, and else the refusal's number.
-fn answer(number: u64, entry: TraceEntry) -> TraceLine
-    ensures { λ r. ⌜ r ≡ answerTo number entry ⌝ }
+// The step where there is no refusal, and else the refusal's number.
+fn answer(number: u64, step: Step) -> TraceLine
+    ensures { λ r. ⌜ r ≡ answerTo number step ⌝ }
 {
     if number == 0 {
-        return TraceLine::Good(entry);
+        return TraceLine::Step(step);
     }
     TraceLine::Bad(number)
 }
@@ -49,22 +40,6 @@ fn place_of(number: usize) -> usize
         return 0;
     }
     number - 1
-}
-
-// A line of one field: `end` after the header.
-fn end_line(word: &[u8], started: bool) -> TraceLine
-    ensures { λ r. ⌜ ((assigns revokes : ℕ) (users : List Name) → r ≡ judged started assigns revokes users (oneField (now (word .entry)))) ⌝ }
-{
-    let formed = text::same(word, b"end") & started;
-    answer(turn(formed, true), TraceEntry::End)
-}
-
-// A line of two fields: the header, edition 1.
-fn header_line(word: &[u8], edition: &[u8], started: bool) -> TraceLine
-    ensures { λ r. ⌜ ((assigns revokes : ℕ) (users : List Name) → r ≡ judged started assigns revokes users (twoFields (now (word .entry)) (now (edition .entry)))) ⌝ }
-{
-    let formed = text::same(word, b"trace") & !started & text::same(edition, b"1");
-    answer(turn(formed, true), TraceEntry::Header)
 }
 
 // An assign step, and else a revoke step.
@@ -85,10 +60,9 @@ fn step_line(
     user: &[u8],
     users: &[u64],
     c: Counts,
-    started: bool,
 ) -> TraceLine
     requires { ⌜ 4 * c .users ≤ length (now users) ⌝ }
-    ensures { λ r. ⌜ r ≡ judged started (c .assigns) (c .revokes) (rows (c .users) (now (users .entry))) (fourFields (now (word .entry)) (now (actor .entry)) (now (number .entry)) (now (user .entry))) ⌝ }
+    ensures { λ r. ⌜ r ≡ judged (c .assigns) (c .revokes) (rows (c .users) (now (users .entry))) (fourFields (now (word .entry)) (now (actor .entry)) (now (number .entry)) (now (user .entry))) ⌝ }
 {
     let assigning = text::same(word, b"assign");
     let kind = assigning | text::same(word, b"revoke");
@@ -96,28 +70,25 @@ fn step_line(
     let a = tables::find(users, count, tables::pack(actor));
     let u = tables::find(users, count, tables::pack(user));
     let n = text::number(number);
-    let formed = kind & (started & (text::is_name(actor) & text::is_name(user) & (n != 0)));
+    let formed = kind & (text::is_name(actor) & text::is_name(user) & (n != 0));
     let ruled = (assigning & (n <= c.assigns)) | (!assigning & (n <= c.revokes));
     let known = (a < count) & (u < count) & ruled;
-    let step = step_of(assigning, a, place_of(n), u);
-    answer(turn(formed, known), TraceEntry::Step(step))
+    answer(turn(formed, known), step_of(assigning, a, place_of(n), u))
 }
 
-// One line of a trace, without its LF, judged on its own bytes, the header above, the user names and the rule counts.
-pub fn read_line(line: &[u8], users: &[u64], c: Counts, started: bool) -> TraceLine
+// One line after the header, without its LF, that is not `end`: judged on its own bytes, the user names and the rule counts.
+pub fn read_line(line: &[u8], users: &[u64], c: Counts) -> TraceLine
     requires { ⌜ 4 * c .users ≤ length (now users) ⌝ }
-    ensures { λ r. ⌜ r ≡ traceLine started (c .assigns) (c .revokes) (rows (c .users) (now (users .entry))) (now (line .entry)) ⌝ }
+    ensures { λ r. ⌜ r ≡ traceLine (c .assigns) (c .revokes) (rows (c .users) (now (users .entry))) (now (line .entry)) ⌝ }
 {
     let end = line.len();
     let a = text::seek(line, 0, b'\t');
-    let word = &line[0..a];
     if a == end {
-        return end_line(word, started);
+        return TraceLine::Bad(15);
     }
     let b = text::seek(line, a + 1, b'\t');
-    let first = &line[a + 1..b];
     if b == end {
-        return header_line(word, first, started);
+        return TraceLine::Bad(15);
     }
     let d = text::seek(line, b + 1, b'\t');
     if d == end {
@@ -128,14 +99,23 @@ pub fn read_line(line: &[u8], users: &[u64], c: Counts, started: bool) -> TraceL
         return TraceLine::Bad(15);
     }
     step_line(
-        word,
-        first,
+        &line[0..a],
+        &line[a + 1..b],
         &line[b + 1..d],
         &line[d + 1..e],
         users,
         c,
-        started,
     )
+}
+
+// Whether the first line is the header of a trace, with its LF.
+pub fn has_header(text: &[u8]) -> bool
+    ensures { λ r. ⌜ r ≡ hasHeader (now (text .entry)) ⌝ }
+{
+    if text.len() < 8 {
+        return false;
+    }
+    text::same(&text[0..8], b"trace\t1\n")
 }
 
 // A refusal.
@@ -149,12 +129,12 @@ fn refused(refusal: u64, line: usize) -> TraceRead
     }
 }
 
-// The refusal's number of a line that is not good.
+// The refusal's number of a line that is not a step.
 pub fn code(answer: TraceLine) -> u64
     ensures { λ r. ⌜ r ≡ codeOf answer ⌝ }
 {
     match answer {
-        TraceLine::Good(_) => 0,
+        TraceLine::Step(_) => 0,
         TraceLine::Bad(number) => number,
     }
 }
@@ -168,40 +148,36 @@ pub fn read_trace(text: &[u8], users: &[u64], c: Counts) -> TraceRead
     if 32768 < end {
         return refused(14, 0);
     }
-    let mut started = false;
+    if !has_header(text) {
+        return refused(15, 1);
+    }
     let mut steps = 0;
-    let mut at = 0;
-    let mut number = 1;
+    let mut at = 8;
+    let mut number = 2;
     while at < end {
         let stop = text::seek(text, at, b'\n');
         if stop == end {
             return refused(15, number);
         }
-        let answer = read_line(&text[at..stop], users, c, started);
+        let line = &text[at..stop];
         let here = number;
         at = stop + 1;
         number += 1;
-        let TraceLine::Good(entry) = answer else {
+        if text::same(line, b"end") {
+            if at < end {
+                return refused(15, number);
+            }
+            return TraceRead {
+                refusal: 0,
+                line: 0,
+                steps,
+            };
+        }
+        let answer = read_line(line, users, c);
+        let TraceLine::Step(_) = answer else {
             return refused(code(answer), here);
         };
-        match entry {
-            TraceEntry::Header => {
-                started = true;
-            }
-            TraceEntry::Step(_) => {
-                steps += 1;
-            }
-            TraceEntry::End => {
-                if at < end {
-                    return refused(15, number);
-                }
-                return TraceRead {
-                    refusal: 0,
-                    line: 0,
-                    steps,
-                };
-            }
-        }
+        steps += 1;
     }
     refused(15, number)
 }

@@ -2,6 +2,7 @@
 use borrow.Author.Needs.{needs}
 use mathlib.Core.Path.{ap, _∙_}
 use Rattle.sheets.specs.Words.{turnedIn}
+use Rattle.sheets.specs.Whole.{sheet-said}
 use Rattle.judging.specs.Verdict.{policyIn, rulesSaid, judgedRules}
 use Rattle.judging.proofs.judge_rules.Statement.{statement}
 use Rattle.judging.proofs.judge_rules.Tie as tie
@@ -16,7 +17,8 @@ returns : tie.Need-returns
 unfolding judgedRules policyIn turnedIn
 returns c =
     let laid = c .before .before .before .before .before .before .before in
-    c .rules-verdict .ensures ∙ ap (rulesSaid (policyIn (laid .before .args .p))) (laid .lay-out .ensures)
+    let args = laid .before .args in
+    c .rules-verdict .ensures ∙ ap (rulesSaid (policyIn (args .p))) (ap turnedIn (laid .lay-out .ensures) ∙ sheet-said (args .t) (args .p .counts .roles))
 
 pub judge-rules-spec : {M : Type 1} → statement M
 judge-rules-spec = tie.close (tie.spec lay-out-requires rules-verdict-requires returns)

@@ -5,8 +5,8 @@ use mathlib.Core.Path.{_≡_, ap, _∙_}
 use Rattle.model.specs.declared.Person.{Person}
 use Rattle.model.specs.declared.Typing.{Typing as Table}
 use Rattle.sheets.specs.declared.Sheet.{Sheet}
-use Rattle.sheets.specs.Turned.{turnedOf}
-use Rattle.sheets.specs.Words.{turnedIn}
+use Rattle.sheets.specs.Words.{turnedIn, sheetOf}
+use Rattle.sheets.specs.Whole.{sheet-said}
 use Rattle.reading.specs.declared.policy.Rules.{Rules}
 use Rattle.judging.specs.declared.Part.{Part}
 use Rattle.judging.specs.declared.TypingVerdict.{TypingVerdict}
@@ -16,9 +16,9 @@ use Rattle.judging.proofs.judge_typing.Statement.{statement}
 use Rattle.judging.proofs.judge_typing.Tie as tie
 
 -- the verdict by the sheet is that of the typing
-by-sheet : (persons : List Person) (p : Rules) (t : Table) (sheet : Sheet) {verdict : TypingVerdict} → turnedIn sheet ≡ turnedOf t (p .counts .roles) → verdict ≡ allSaid (subjectIn persons p) (turnedIn sheet) → verdict ≡ judgedTyping (subjectIn persons p) t
+by-sheet : (persons : List Person) (p : Rules) (t : Table) (sheet : Sheet) {verdict : TypingVerdict} → sheet ≡ sheetOf t (p .counts .roles) → verdict ≡ allSaid (subjectIn persons p) (turnedIn sheet) → verdict ≡ judgedTyping (subjectIn persons p) t
 unfolding judgedTyping subjectIn
-by-sheet persons p t sheet same is = is ∙ ap (allSaid (subjectIn persons p)) same
+by-sheet persons p t sheet same is = is ∙ ap (allSaid (subjectIn persons p)) (ap turnedIn same ∙ sheet-said t (p .counts .roles))
 
 lay-out-requires : tie.Need-lay-out-requires
 lay-out-requires c κs = search needs

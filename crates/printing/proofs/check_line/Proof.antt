@@ -1,7 +1,11 @@
--- `check_line` makes the line apart and copies it where there is room for it.
+-- `check_line` makes the line apart and shows it.
 use lib.Dec.{lit≤}
+use lib.ListN.{replicate}
 use native.Mathlib.Omega.{arith}
-use Rattle.printing.specs.LineTold.{line-told, too-short, taken-length, fits, counted}
+use Rattle.printing.specs.Line.{checkLine}
+use Rattle.printing.specs.LineSteps.{Line}
+use Rattle.printing.specs.LineTold.{line-told, taken, taken-length}
+use Rattle.printing.specs.Showing.{shows-as}
 use borrow.Author.Needs.{needs}
 use Rattle.printing.proofs.check_line.Statement.{statement}
 use Rattle.printing.proofs.check_line.Tie as tie
@@ -15,33 +19,26 @@ slice-aggregate-write-line c = search needs
 write-line-requires : tie.Need-write-line-requires
 write-line-requires c κs = lit≤ tt
 
-returns : tie.Need-returns
-returns c =
-    let start = c .before .before .before .before .before .before .before .before .before in
-    let wrote = line-told (start .args .policy .now) (start .args .evidence .now) (c .before .before .before .before .before .named-answer .ensures) (c .before .before .write-line .ensures) in
-    counted _ _ (too-short wrote (start .args .out .now) (c .if1 .taken))
+-- the line of the two texts is made in the array
+told : (c : tie.After-write-line) → Line (checkLine (c .before .before .before .before .before .before .before .args .policy .now) (c .before .before .before .before .before .before .before .args .evidence .now)) 128 (replicate 128 0) (c .write-line .result) (c .write-line .last .0)
+told c = line-told _ _ (c .before .before .before .named-answer .ensures) (c .write-line .ensures)
 
 array-share-prefix-line : tie.Need-array-share-prefix-line
-array-share-prefix-line c =
-    let start = c .before .before .before .before .before .before .before .before .before .before in
-    omega (arith, line-told (start .args .policy .now) (start .args .evidence .now) (c .before .before .before .before .before .before .named-answer .ensures) (c .before .before .before .write-line .ensures) .few)
+array-share-prefix-line c = omega (arith, told (c .before) .few)
 
-slice-aggregate-write-bytes : tie.Need-slice-aggregate-write-bytes
-slice-aggregate-write-bytes c =
-    let start = c .before .before .before .before .before .before .before .before .before .before .before in
-    taken-length (line-told (start .args .policy .now) (start .args .evidence .now) (c .before .before .before .before .before .before .before .named-answer .ensures) (c .before .before .before .before .write-line .ensures))
+slice-aggregate-show-line : tie.Need-slice-aggregate-show-line
+slice-aggregate-show-line c = taken-length (told (c .before .before))
 
-write-bytes-requires : tie.Need-write-bytes-requires
-write-bytes-requires c κs = omega (arith, slice-aggregate-write-bytes c, c .before .before .if1 .left)
+show-line-requires : tie.Need-show-line-requires
+show-line-requires c κs = search needs
 
 same-length : tie.Need-same-length
 same-length c = search needs
 
-returns-2 : tie.Need-returns-2
-returns-2 c =
-    let start = c .before .before .before .before .before .before .before .before .before .before .before .before .before .before in
-    let wrote = line-told (start .args .policy .now) (start .args .evidence .now) (c .before .before .before .before .before .before .before .before .before .before .named-answer .ensures) (c .before .before .before .before .before .before .before .write-line .ensures) in
-    counted _ _ (fits wrote (start .args .out .now) (c .before .before .before .before .before .if1 .left) (c .before .before .write-bytes .ensures))
+returns : tie.Need-returns
+returns c =
+    let made = c .before .before .before .before .before .before in
+    shows-as (made .before .before .before .before .before .before .before .args .out .now) (taken (told made)) (c .before .before .show-line .ensures)
 
 pub check-line-spec : {M : Type 1} → statement M
 check-line-spec =
@@ -50,9 +47,8 @@ check-line-spec =
     named-answer-requires
     slice-aggregate-write-line
     write-line-requires
-    returns
     array-share-prefix-line
-    slice-aggregate-write-bytes
-    write-bytes-requires
+    slice-aggregate-show-line
+    show-line-requires
     same-length
-    returns-2)
+    returns)

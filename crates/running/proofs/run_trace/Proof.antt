@@ -1,105 +1,140 @@
--- `run_trace` goes from line to line: the steps so far run to the state that the array holds, and the rest of the text decides.
+-- `run_trace` goes from line to line after the header: the steps so far run to the state that the array holds, and the rest of the text decides.
 use Prim.Native.Nat.{ℕ, _+_, _-_, _<_}
 use borrow.Author.Needs.{needs}
+use borrow.Author.Tests.{not-true, not-false}
 use lib.ListN.{length, length-map}
+use mathlib.Core.Bool.{false}
 use mathlib.Core.Logic.{⊎-elim}
 use mathlib.Core.Path.{_≡_, sym, ap, subst, _∙_}
 use native.Mathlib.Omega.{arith}
 use Rattle.model.specs.Policy.{nobody, person}
 use Rattle.roles.specs.Sets.{emptySet}
+use Rattle.text.specs.Forms.{bytes}
+use Rattle.text.specs.Pieces.{part, sameBytes}
 use Rattle.traces.specs.TraceText.{codeOf}
-use Rattle.traces.specs.declared.TraceEntry.{TraceEntry}
-use Rattle.traces.specs.declared.TraceLine.{TraceLine}
+use Rattle.traces.specs.TraceWalk.{trace-long, headless, no-line, line-open, line-more, line-bad}
 use Rattle.steps.specs.declared.Step.{Step}
 use Rattle.steps.specs.Traces.{assignAt, revokeAt}
 use Rattle.running.specs.Layout.{arrays}
 use Rattle.running.specs.Range.{InRange, Ranged}
 use Rattle.running.specs.Trying.{triedIn, tried-place}
-use Rattle.running.specs.Reached.{Reached, stateIn, refused-long, reached-start, reached-end, reached-tail, line-refused, line-header, step-passed, step-range, step-goes, step-breaks, line-last, line-more}
+use Rattle.running.specs.Reached.{Arrayed, Reached, stateIn, refused-is, reached-start, reached-last, step-passed, step-range, step-goes, step-breaks}
 use Rattle.running.specs.declared.Tried.{Tried}
 use Rattle.running.specs.declared.TraceVerdict.{TraceVerdict}
 use Rattle.running.proofs.run_trace.Statement.{statement}
 use Rattle.running.proofs.run_trace.Tie as tie
 
 abbrev Inv-loop : tie.InvT-loop
-Inv-loop text users p end c goals persons₀ started₀ steps₀ broken₀ at₀ number₀ persons started steps broken at number = Reached (arrays users persons₀ p) text at number started steps broken persons
+Inv-loop text users p end c persons₀ steps₀ broken₀ at₀ number₀ t27 persons steps broken at number = Reached (arrays users persons₀ p) text at number steps broken persons
 
 abbrev μ-loop : tie.MeasureT-loop
-μ-loop text users p end c goals persons₀ started₀ steps₀ broken₀ at₀ number₀ persons started steps broken at number = length text - at
+μ-loop text users p end c persons₀ steps₀ broken₀ at₀ number₀ t27 persons steps broken at number = length text - at
 
--- after a line was read: it ends within the text
-inside : (c : tie.After-read-line Inv-loop μ-loop) → c .before .before .before .seek .result < length (c .before .before .before .before .before .before .before .before .before .before .before .args .text .now)
-inside c = omega (arith, c .before .before .before .seek .ensures, c .before .before .if2 .left)
+-- the arrays are as long as their types say
+arrayed-is : (c : tie.Start Inv-loop μ-loop) → Arrayed (arrays (c .args .users .now) (c .args .people) (c .args .t4))
+arrayed-is c = record {
+  counts = c .pre;
+  persons = c .good .1 .1 .0 .1 .0 .1;
+  assigns = simp length-map at (c .good .1 .1 .1 .0 .1 .1 .1 .1 .0 .1 .0 .1);
+  revokes = simp length-map at (c .good .1 .1 .1 .0 .1 .1 .1 .1 .1 .0 .1 .0 .1);
+}
 
--- and the measure falls with the next
-nearer : (c : tie.After-read-line Inv-loop μ-loop) → length (c .before .before .before .before .before .before .before .before .before .before .before .args .text .now) - (c .before .before .before .seek .result + 1) < length (c .before .before .before .before .before .before .before .before .before .before .before .args .text .now) - c .before .before .before .before .before .loop .at
-nearer c = omega (arith, c .before .before .before .seek .ensures, c .before .before .before .before .loop-test .taken)
+-- the line that was sought ends within the text,
+inside : (c : tie.Else3 Inv-loop μ-loop) → c .before .seek .result < length (c .before .before .before .before .before .before .before .before .before .before .args .text .now)
+inside c = omega (arith, c .before .seek .ensures, c .if3 .left)
 
--- where a step is tried: what the line says, and that its places are in range
-step-said : (c : tie.Then3 Inv-loop μ-loop) → c .before .before .before .before .before .before .before .read-line .result ≡ TraceLine.Good (TraceEntry.Step (c .before .before .entry .given .0 .0))
-step-said c = c .before .before .before .before .before .answer .given .1 ∙ ap TraceLine.Good (c .before .before .entry .given .1)
+-- the measure falls with the next,
+nearer : (c : tie.Else3 Inv-loop μ-loop) → length (c .before .before .before .before .before .before .before .before .before .before .args .text .now) - (c .before .seek .result + 1) < length (c .before .before .before .before .before .before .before .before .before .before .args .text .now) - c .before .before .before .loop .at
+nearer c = omega (arith, c .before .seek .ensures, c .before .before .loop-test .taken)
 
-step-places : (c : tie.Then3 Inv-loop μ-loop) → Ranged 256 256 64 (TraceEntry.Step (c .before .before .entry .given .0 .0))
+-- and a line that is read is not `end`
+not-end : (c : tie.After-read-line Inv-loop μ-loop) → sameBytes (part (c .before .before .before .before .before .before .before .before .before .before .before .before .before .before .before .args .text .now) (c .before .before .before .before .before .before .before .before .loop .at) (c .before .before .before .before .before .before .seek .result)) (bytes "end") ≡ false
+not-end c = sym (c .before .before .same .ensures) ∙ c .before .if4 .left
+
+-- the places of its step are in range
+step-places : (c : tie.After-known-told Inv-loop μ-loop) → Ranged 256 256 64 (c .before .answer .given .0 .0)
 step-places c =
-    let line = c .before .before .before .before .before .before .before in
-    step-range (line .before .before .before .before .before .loop .inv) (line .before .before .before .seek .ensures) (inside line) (line .read-line .ensures) (step-said c)
+    let line = c .before .before .before in
+    step-range (line .before .before .before .before .before .before .before .before .loop .inv) (line .before .before .before .before .before .before .seek .ensures) (inside (line .before .before .before .before .before)) (not-end line) (line .read-line .ensures) (c .before .answer .given .1)
 
-assign-places : (c : tie.After-known-told3 Inv-loop μ-loop) → InRange 256 64 (c .before .step .given .0 .0) (c .before .step .given .0 .1 .0) (c .before .step .given .0 .1 .1 .0)
-assign-places c = subst (λ (s : Step). Ranged 256 256 64 (TraceEntry.Step s)) (c .before .step .given .1) (step-places (c .before .before .before))
+assign-places : (c : tie.After-known-told2 Inv-loop μ-loop) → InRange 256 64 (c .before .step .given .0 .0) (c .before .step .given .0 .1 .0) (c .before .step .given .0 .1 .1 .0)
+assign-places c = subst (Ranged 256 256 64) (c .before .step .given .1) (step-places (c .before .before .before .before))
 
-revoke-places : (c : tie.After-known-told4 Inv-loop μ-loop) → InRange 256 64 (c .before .step2 .given .0 .0) (c .before .step2 .given .0 .1 .0) (c .before .step2 .given .0 .1 .1 .0)
-revoke-places c = subst (λ (s : Step). Ranged 256 256 64 (TraceEntry.Step s)) (c .before .step2 .given .1) (step-places (c .before .before .before))
+revoke-places : (c : tie.After-known-told3 Inv-loop μ-loop) → InRange 256 64 (c .before .step2 .given .0 .0) (c .before .step2 .given .0 .1 .0) (c .before .step2 .given .0 .1 .1 .0)
+revoke-places c = subst (Ranged 256 256 64) (c .before .step2 .given .1) (step-places (c .before .before .before .before))
 
 -- either way it is tried over the arrays, on one of the users
-abbrev tried-over : tie.Then3 Inv-loop μ-loop → Step → Tried
-tried-over c = triedIn (c .before .before .before .before .before .before .before .before .before .before .before .before .before .before .before .before .before .before .args .t4 .assigns) (c .before .before .before .before .before .before .before .before .before .before .before .before .before .before .before .before .before .before .args .t4 .revokes) (c .before .before .before .before .before .before .before .before .before .before .before .before .loop .persons)
+abbrev tried-over : tie.Then6 Inv-loop μ-loop → Step → Tried
+tried-over c = triedIn (c .before .before .before .before .before .before .before .before .before .before .before .before .before .before .before .before .before .before .before .args .t4 .assigns) (c .before .before .before .before .before .before .before .before .before .before .before .before .before .before .before .before .before .before .before .args .t4 .revokes) (c .before .before .before .before .before .before .before .before .before .before .before .before .loop .persons)
 
-tried-said : (c : tie.At-match3-came Inv-loop μ-loop) → c .match3 .tried ≡ tried-over (c .before) (c .before .before .before .entry .given .0 .0)
+tried-said : (c : tie.At-match2-came Inv-loop μ-loop) → c .match2 .tried ≡ tried-over (c .before) (c .before .before .before .answer .given .0 .0)
 unfolding nobody emptySet assignAt revokeAt person triedIn
 tried-said c =
     ⊎-elim (λ w. w .7 ∙ (λ i. record { possible = w .6 .ensures .0 i; place = w .6 .ensures .1 i; user = w .6 .ensures .2 i }) ∙ sym (ap (tried-over (c .before)) (w .1 .given .1)))
     (λ w. w .7 ∙ (λ i. record { possible = w .6 .ensures .0 i; place = w .6 .ensures .1 i; user = w .6 .ensures .2 i }) ∙ sym (ap (tried-over (c .before)) (w .1 .given .1)))
-    (c .match3 .came)
+    (c .match2 .came)
 
-stored-place : (c : tie.At-match3-came Inv-loop μ-loop) → c .match3 .tried .place < 64
-stored-place c = subst (λ (t : Tried). t .place < 64) (sym (tried-said c)) (tried-place 256 256 64 _ _ _ (c .before .before .before .entry .given .0 .0) (step-places (c .before)))
+stored-place : (c : tie.At-match2-came Inv-loop μ-loop) → c .match2 .tried .place < 64
+stored-place c = subst (λ (t : Tried). t .place < 64) (sym (tried-said c)) (tried-place 256 256 64 _ _ _ (c .before .before .before .answer .given .0 .0) (step-places (c .before .before)))
 
 returns : tie.Need-returns Inv-loop μ-loop
-returns c = refused-long _ _ (c .if1 .taken)
+returns c = refused-is (arrayed-is (c .before .before .before)) _ (trace-long _ _ _ _ (c .if1 .taken))
 
-loop-holds : tie.Need-loop-holds Inv-loop μ-loop
-loop-holds c =
-    let start = c .before .before .before .before .before in
-    reached-start _ _ (record {
-      counts = start .pre;
-      persons = start .good .1 .1 .0 .1 .0 .1;
-      assigns = simp length-map at (start .good .1 .1 .1 .0 .1 .1 .1 .1 .0 .1 .0 .1);
-      revokes = simp length-map at (start .good .1 .1 .1 .0 .1 .1 .1 .1 .1 .0 .1 .0 .1);
-    }) (c .before .before .if1 .left)
-
-seek-requires : tie.Need-seek-requires Inv-loop μ-loop
-seek-requires c κs = search needs
+has-header-requires : tie.Need-has-header-requires Inv-loop μ-loop
+has-header-requires c κs = search needs
 
 returns-2 : tie.Need-returns-2 Inv-loop μ-loop
-returns-2 c = reached-tail (c .before .before .before .loop .inv) (c .before .seek .ensures) (c .if2 .taken)
+returns-2 c = refused-is (arrayed-is (c .before .before .before .before .before)) _ (headless _ _ _ _ (c .before .before .if1 .left) (sym (c .before .has-header .ensures) ∙ not-true _ (c .if2 .taken)))
 
-sub-read-line : tie.Need-sub-read-line Inv-loop μ-loop
-sub-read-line c = omega (arith, c .before .seek .ensures)
+loop-holds : tie.Need-loop-holds Inv-loop μ-loop
+loop-holds c = reached-start _ _ (arrayed-is (c .before .before .before .before .before .before)) (c .before .before .before .if1 .left) (sym (c .before .before .has-header .ensures) ∙ not-false _ (c .before .if2 .left))
 
-part-read-line-start : tie.Need-part-read-line-start Inv-loop μ-loop
-part-read-line-start c = search needs
+seek-requires : tie.Need-seek-requires Inv-loop μ-loop
+seek-requires c κs = (c .before .loop .inv) .after .on .within
 
-part-read-line-end : tie.Need-part-read-line-end Inv-loop μ-loop
-part-read-line-end c = search needs
+returns-3 : tie.Need-returns-3 Inv-loop μ-loop
+returns-3 c = refused-is ((c .before .before .before .loop .inv) .arrayed) _ (line-open ((c .before .before .before .loop .inv) .after) (c .before .seek .ensures) (c .if3 .taken))
 
-read-line-requires : tie.Need-read-line-requires Inv-loop μ-loop
-read-line-requires c κs = c .before .before .before .before .before .before .before .before .before .before .pre .named
+sub-line : tie.Need-sub-line Inv-loop μ-loop
+sub-line c = omega (arith, c .before .seek .ensures)
+
+part-line-start : tie.Need-part-line-start Inv-loop μ-loop
+part-line-start c = search needs
+
+part-line-end : tie.Need-part-line-end Inv-loop μ-loop
+part-line-end c = search needs
 
 add-at : tie.Need-add-at Inv-loop μ-loop
-add-at c = omega (arith, c .before .before .before .seek .ensures, (c .before .before .before .before .before .loop .inv) .on .short)
+add-at c = omega (arith, c .before .before .seek .ensures, (c .before .before .before .before .loop .inv) .after .on .short)
 
 add-number : tie.Need-add-number Inv-loop μ-loop
-add-number c = omega (arith, (c .before .before .before .before .before .loop .inv) .on)
+add-number c = omega (arith, (c .before .before .before .before .loop .inv) .after .on)
+
+slice-aggregate-same : tie.Need-slice-aggregate-same Inv-loop μ-loop
+slice-aggregate-same c = search needs
+
+same-requires : tie.Need-same-requires Inv-loop μ-loop
+same-requires c κs = search needs
+
+returns-4 : tie.Need-returns-4 Inv-loop μ-loop
+returns-4 c =
+    let line = c .before .before .before .before .before in
+    refused-is ((line .before .before .before .loop .inv) .arrayed) _ (line-more ((line .before .before .before .loop .inv) .after) (line .before .seek .ensures) (inside line) (sym (c .before .before .same .ensures) ∙ c .before .if4 .taken) (c .if5 .taken))
+
+first-bad-requires : tie.Need-first-bad-requires Inv-loop μ-loop
+first-bad-requires c κs = search needs
+
+ending-requires : tie.Need-ending-requires Inv-loop μ-loop
+ending-requires c κs = search needs
+
+returns-5 : tie.Need-returns-5 Inv-loop μ-loop
+unfolding stateIn
+returns-5 c =
+    let line = c .before .before .before .before .before .before .before .before in
+    reached-last (line .before .before .before .loop .inv) (line .before .seek .ensures) (inside line) (sym (c .before .before .before .before .before .same .ensures) ∙ c .before .before .before .before .if4 .taken) (c .before .before .before .if5 .left) (c .before .first-bad .ensures) (c .ending .ensures)
+
+read-line-requires : tie.Need-read-line-requires Inv-loop μ-loop
+read-line-requires c κs = c .before .before .before .before .before .before .before .before .before .before .before .before .before .before .pre .named
 
 enum-known-answer : tie.Need-enum-known-answer Inv-loop μ-loop
 enum-known-answer c = search needs
@@ -110,28 +145,14 @@ enum-told c = search needs
 code-requires : tie.Need-code-requires Inv-loop μ-loop
 code-requires c κs = search needs
 
-returns-3 : tie.Need-returns-3 Inv-loop μ-loop
+returns-6 : tie.Need-returns-6 Inv-loop μ-loop
 unfolding codeOf
-returns-3 c =
+returns-6 c =
     let line = c .before .before .before in
-    ap (λ (k : ℕ). TraceVerdict.Refused k (line .before .before .before .before .before .loop .number)) (c .code .ensures ∙ ap codeOf (c .before .enum-told .given .1)) ∙ line-refused (line .before .before .before .before .before .loop .inv) (line .before .before .before .seek .ensures) (inside line) (line .read-line .ensures) (c .before .enum-told .given .1)
-
-enum-told-2 : tie.Need-enum-told-2 Inv-loop μ-loop
-enum-told-2 c = search needs
-
-loop-less : tie.Need-loop-less Inv-loop μ-loop
-loop-less c = nearer (c .before .before .before .before .before)
-
-loop-again : tie.Need-loop-again Inv-loop μ-loop
-loop-again c =
-    let line = c .before .before .before .before .before in
-    line-header (line .before .before .before .before .before .loop .inv) (line .before .before .before .seek .ensures) (inside line) (line .read-line .ensures) (c .before .before .before .answer .given .1 ∙ ap TraceLine.Good (c .enum-told2 .given .1))
-
-enum-known-entry : tie.Need-enum-known-entry Inv-loop μ-loop
-enum-known-entry c = search needs
+    ap (λ (k : ℕ). TraceVerdict.Refused k (line .before .before .before .before .before .before .before .before .loop .number)) (c .code .ensures ∙ ap codeOf (c .before .enum-told .given .1)) ∙ refused-is ((line .before .before .before .before .before .before .before .before .loop .inv) .arrayed) _ (line-bad ((line .before .before .before .before .before .before .before .before .loop .inv) .after) (line .before .before .before .before .before .before .seek .ensures) (inside (line .before .before .before .before .before)) (not-end line) (line .read-line .ensures) (c .before .enum-told .given .1))
 
 add-steps : tie.Need-add-steps Inv-loop μ-loop
-add-steps c = omega (arith, (c .before .before .before .before .before .before .before .before .before .before .before .loop .inv) .few, (c .before .before .before .before .before .before .before .before .before .before .before .loop .inv) .on)
+add-steps c = omega (arith, (c .before .before .before .before .before .before .before .before .before .before .before .loop .inv) .few, (c .before .before .before .before .before .before .before .before .before .before .before .loop .inv) .after .on)
 
 enum-known-step : tie.Need-enum-known-step Inv-loop μ-loop
 enum-known-step c = search needs
@@ -187,52 +208,32 @@ mul-persons c = omega (arith, stored-place (c .before .before))
 array-set-from-persons : tie.Need-array-set-from-persons Inv-loop μ-loop
 array-set-from-persons c = stored-place (c .before .before)
 
+loop-less : tie.Need-loop-less Inv-loop μ-loop
+loop-less c = nearer (c .before .before .before .before .before .before .before .before .before .before .before .before)
+
+loop-again : tie.Need-loop-again Inv-loop μ-loop
+loop-again c =
+    let line = c .before .before .before .before .before .before .before in
+    step-goes (line .before .before .before .before .before .before .before .before .loop .inv) (line .before .before .before .before .before .before .seek .ensures) (inside (line .before .before .before .before .before)) (not-end line) (line .read-line .ensures) (c .before .before .before .before .before .answer .given .1) (c .before .before .before .if6 .taken) (tried-said (c .before .before)) (c .before .if7 .taken)
+
 loop-less-2 : tie.Need-loop-less-2 Inv-loop μ-loop
-loop-less-2 c = nearer (c .before .before .before .before .before .before .before .before .before .before)
+loop-less-2 c = nearer (c .before .before .before .before .before .before .before .before .before .before .before)
 
 loop-again-2 : tie.Need-loop-again-2 Inv-loop μ-loop
 loop-again-2 c =
-    let line = c .before .before .before .before .before .before .before .before .before .before in
-    step-goes (line .before .before .before .before .before .loop .inv) (line .before .before .before .seek .ensures) (inside line) (line .read-line .ensures) (step-said (c .before .before .before)) (c .before .before .before .if3 .taken) (tried-said (c .before .before)) (c .before .if4 .taken)
+    let line = c .before .before .before .before .before .before in
+    step-breaks (line .before .before .before .before .before .before .before .before .loop .inv) (line .before .before .before .before .before .before .seek .ensures) (inside (line .before .before .before .before .before)) (not-end line) (line .read-line .ensures) (c .before .before .before .before .answer .given .1) (c .before .before .if6 .taken) (tried-said (c .before)) (c .if7 .left)
 
 loop-less-3 : tie.Need-loop-less-3 Inv-loop μ-loop
 loop-less-3 c = nearer (c .before .before .before .before .before .before .before .before .before)
 
 loop-again-3 : tie.Need-loop-again-3 Inv-loop μ-loop
 loop-again-3 c =
-    let line = c .before .before .before .before .before .before .before .before .before in
-    step-breaks (line .before .before .before .before .before .loop .inv) (line .before .before .before .seek .ensures) (inside line) (line .read-line .ensures) (step-said (c .before .before)) (c .before .before .if3 .taken) (tried-said (c .before)) (c .if4 .left)
+    let line = c .before .before .before .before in
+    step-passed (line .before .before .before .before .before .before .before .before .loop .inv) (line .before .before .before .before .before .before .seek .ensures) (inside (line .before .before .before .before .before)) (not-end line) (line .read-line .ensures) (c .before .before .answer .given .1) (c .if6 .left)
 
-loop-less-4 : tie.Need-loop-less-4 Inv-loop μ-loop
-loop-less-4 c = nearer (c .before .before .before .before .before .before .before)
-
-loop-again-4 : tie.Need-loop-again-4 Inv-loop μ-loop
-loop-again-4 c =
-    let line = c .before .before .before .before .before .before .before in
-    step-passed (line .before .before .before .before .before .loop .inv) (line .before .before .before .seek .ensures) (inside line) (line .read-line .ensures) (c .before .before .before .before .before .answer .given .1 ∙ ap TraceLine.Good (c .before .before .entry .given .1)) (c .if3 .left)
-
-enum-told-3 : tie.Need-enum-told-3 Inv-loop μ-loop
-enum-told-3 c = search needs
-
-returns-4 : tie.Need-returns-4 Inv-loop μ-loop
-returns-4 c =
-    let line = c .before .before .before .before .before .before in
-    line-more (line .before .before .before .before .before .loop .inv) (line .before .before .before .seek .ensures) (inside line) (line .read-line .ensures) (c .before .before .before .before .answer .given .1 ∙ ap TraceLine.Good (c .before .enum-told3 .given .1)) (c .if5 .taken)
-
-first-bad-requires : tie.Need-first-bad-requires Inv-loop μ-loop
-first-bad-requires c κs = search needs
-
-ending-requires : tie.Need-ending-requires Inv-loop μ-loop
-ending-requires c κs = search needs
-
-returns-5 : tie.Need-returns-5 Inv-loop μ-loop
-unfolding stateIn
-returns-5 c =
-    let line = c .before .before .before .before .before .before .before .before in
-    line-last (line .before .before .before .before .before .loop .inv) (line .before .before .before .seek .ensures) (inside line) (line .read-line .ensures) (c .before .before .before .before .before .before .answer .given .1 ∙ ap TraceLine.Good (c .before .before .before .enum-told3 .given .1)) (c .before .before .if5 .left) (c .before .first-bad .ensures) (c .ending .ensures)
-
-returns-6 : tie.Need-returns-6 Inv-loop μ-loop
-returns-6 c = reached-end (c .before .loop .inv) (c .loop-test .left)
+returns-7 : tie.Need-returns-7 Inv-loop μ-loop
+returns-7 c = refused-is ((c .before .loop .inv) .arrayed) _ (no-line ((c .before .loop .inv) .after) (c .loop-test .left))
 
 pub run-trace-spec : {M : Type 1} → statement M
 run-trace-spec =
@@ -241,23 +242,27 @@ run-trace-spec =
     Inv-loop
     μ-loop
     returns
+    has-header-requires
+    returns-2
     loop-holds
     seek-requires
-    returns-2
-    sub-read-line
-    part-read-line-start
-    part-read-line-end
-    read-line-requires
+    returns-3
+    sub-line
+    part-line-start
+    part-line-end
     add-at
     add-number
+    slice-aggregate-same
+    same-requires
+    returns-4
+    first-bad-requires
+    ending-requires
+    returns-5
+    read-line-requires
     enum-known-answer
     enum-told
     code-requires
-    returns-3
-    enum-told-2
-    loop-less
-    loop-again
-    enum-known-entry
+    returns-6
     add-steps
     enum-known-step
     mul-try-assign
@@ -277,15 +282,10 @@ run-trace-spec =
     try-revoke-requires
     mul-persons
     array-set-from-persons
+    loop-less
+    loop-again
     loop-less-2
     loop-again-2
     loop-less-3
     loop-again-3
-    loop-less-4
-    loop-again-4
-    enum-told-3
-    returns-4
-    first-bad-requires
-    ending-requires
-    returns-5
-    returns-6)
+    returns-7)

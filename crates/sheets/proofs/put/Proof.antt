@@ -30,7 +30,7 @@ slice-write-words-2 c = simp length-set (omega arith)
 returns : tie.Need-returns
 returns c =
     let args = c .before .args in
-    put-set (args .table .now) (args .role) (args .set) (omega arith)
+    (simp length-set, put-set (args .table .now) (args .role) (args .set) (omega arith))
 
 pub put-spec : {M : Type 1} → statement M
 put-spec =
