@@ -25,7 +25,7 @@ use Rattle.merging.specs.Merge as merge
 use Rattle.answering.specs.declared.Answer.{Answer}
 use Rattle.answering.specs.Answers.{numberOf, answerOf, nameAt}
 use Rattle.printing.specs.Line.{field, partText, lineOf, checkLine}
-use Rattle.printing.specs.Program.{File, held, unread, noFile, programLine}
+use Rattle.printing.specs.Program.{noFile, programLine}
 use Rattle.telling.specs.Numbers.{placeText}
 use Rattle.arbac.specs.Face.{noRoom, roomFor, toldNumber, toldIn}
 use Rattle.arbac.specs.FaceNumbers.{IsSafe, safe, IsSummed, summed, IsMerged, merged, check-numbered, sum-numbered, merge-numbered}
@@ -81,9 +81,9 @@ merge-told policy₁ typing₁ policy₂ typing₂ room array =
     told-so 6 array (n .listed) (n .zero-only, merged-zero)
 
 -- and the functions that tell a place never.
-pub bad-line-told : (place : BadPlace) (array : List ℕ) → Answered 2 array ⊥ (toldNumber 2 (placeText place) array)
+pub bad-place-told : (place : BadPlace) (array : List ℕ) → Answered 2 array ⊥ (toldNumber 2 (placeText place) array)
 unfolding placeText
-bad-line-told place array = go (place .evidence)
+bad-place-told place array = go (place .evidence)
   where
     go : (b : Bool) → Answered 2 array ⊥ (toldNumber 2 (cond b 2 1) array)
     go true = told-so 2 array (lit≤ tt) (λ is. omega (arith, is), λ never. absurd never)
@@ -148,8 +148,8 @@ unfolding checkLine
 line-longest policy evidence = line-length _ _
 
 -- The same of the line that the program prints, NOFILE among them.
-pub program-longest : (policy evidence : File) → length (programLine policy evidence) ≤ 128
+pub program-longest : (policyRead : Bool) (policy : List ℕ) (evidenceRead : Bool) (evidence : List ℕ) → length (programLine policyRead policy evidenceRead evidence) ≤ 128
 unfolding programLine noFile field
-program-longest unread evidence = lit≤ tt
-program-longest (held policy) unread = lit≤ tt
-program-longest (held policy) (held evidence) = line-longest policy evidence
+program-longest false policy evidenceRead evidence = lit≤ tt
+program-longest true policy false evidence = lit≤ tt
+program-longest true policy true evidence = line-longest policy evidence

@@ -7,7 +7,6 @@ use Rattle.reading.specs.Texts.{read, refused}
 use Rattle.reading.specs.Policy.{Said, readPolicy}
 use Rattle.typings.specs.TypingText.{readTyping}
 use Rattle.judging.specs.declared.Part.{Part}
-use Rattle.places.specs.declared.Refusal.{Refusal}
 use Rattle.places.specs.Place.{typingRefusalOf}
 use Rattle.places.specs.PlaceLaws.{after-refused, typing-refused}
 use Rattle.summing.specs.declared.SumAnswer.{SumAnswer}

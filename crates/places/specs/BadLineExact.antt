@@ -1,7 +1,7 @@
 -- The bad line is the line of the refusal's number, in the text that the refusal speaks of.
-use Prim.Native.Nat.{ℕ, suc, _+_, _-_, _≤_, _<_}
+use Prim.Native.Nat.{ℕ, _+_, _-_, _≤_, _<_}
 use mathlib.Core.Bool.{Bool, true, false, _&&_}
-use mathlib.Core.List.{List, [], _∷_}
+use mathlib.Core.List.{List}
 use mathlib.Core.Logic.{_⊎_, inl, inr}
 use mathlib.Core.Path.{_≡_, refl, sym, ap, subst, subst⁻¹, _∙_}
 use borrow.Author.Tests.{lt-leb, le-leb}
@@ -22,11 +22,11 @@ use Rattle.traces.specs.Exact.{trace-refusal-exact}
 use Rattle.places.specs.declared.Refusal.{Refusal}
 use Rattle.places.specs.declared.Span.{Span}
 use Rattle.places.specs.declared.BadPlace.{BadPlace}
-use Rattle.places.specs.Place.{isTyping, told, refusedOver, refusalAfter, refusalAs, refusalOf, typingRefusalOf, noSpan, spanOf, badSpan, placeOf, bytesAt, badPlace, badLine, badTypingPlace, badTypingLine}
+use Rattle.places.specs.Place.{isTyping, told, refusedOver, refusalAfter, refusalAs, refusalOf, typingRefusalOf, noSpan, badSpan, placeOf, bytesAt, badPlace, badLine, badTypingPlace, badTypingLine}
 use Rattle.places.specs.PlaceLaws.{bad-none, bad-policy, bad-evidence}
 use Rattle.places.specs.BadLines.{lineAt, startOf, HasLine, PastLast, OfPolicy, OfEvidence, OfNeither, linePlace, noPlace, BadAt}
 use Rattle.places.specs.BadLines as bad
-use Rattle.places.specs.LinePlaces.{some-piece, Found, line-found, past-lost}
+use Rattle.places.specs.LinePlaces.{some-piece, line-found, past-lost}
 use Rattle.places.specs.LineNumbers.{line-judged, line-left, line-after}
 
 -- ---- the place of a refusal

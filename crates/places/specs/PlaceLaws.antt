@@ -6,12 +6,10 @@ use mathlib.Core.Path.{_≡_, refl, sym, ap, ap₂, subst, subst⁻¹, _∙_}
 use borrow.Author.Tests.{lt-ltb, le-ltb, ltb-true, ltb-false, leb-true, le-leb, eq-eqb, ne-eqb}
 use lib.Dec.{ltb, leb, eqb}
 use lib.ListN.{length, drop, length-drop}
-use native.Mathlib.Nat.{zero-add}
 use native.Mathlib.Omega.{arith}
 use Rattle.bytes.specs.Bytes.{indexOf, indexAfter}
 use Rattle.tables.specs.declared.Name.{Name}
-use Rattle.text.specs.Forms.{bytes}
-use Rattle.text.specs.Pieces.{part, sameBytes, Sought}
+use Rattle.text.specs.Pieces.{part, Sought}
 use Rattle.reading.specs.Texts.{Reading, read, refused}
 use Rattle.tables.specs.Names.{rows}
 use Rattle.lines.specs.declared.Counts.{Counts}
@@ -26,7 +24,7 @@ use Rattle.places.specs.declared.Span.{Span}
 use Rattle.places.specs.declared.BadPlace.{BadPlace}
 use Rattle.typings.specs.TypingText.{Typed, readTyping, refusedTyping, answerOf as typingAnswer, typingRead}
 use Rattle.traces.specs.TraceText.{Traced, readTrace, refusedTrace, answerOf as traceAnswer, traceRead}
-use Rattle.places.specs.Place.{isTyping, told, refusedOver, refusalAfter, refusalAs, typingRefusalOf, noSpan, spanOf, badSpan, placeOf, bytesAt, beginsAt}
+use Rattle.places.specs.Place.{told, refusedOver, refusalAfter, refusalAs, typingRefusalOf, noSpan, spanOf, badSpan, placeOf, bytesAt, beginsAt}
 
 -- the refusal that a reader's record has
 typing-told : (r : Reading Typed) → record { number = typingAnswer r .refusal; line = typingAnswer r .line } ≡ told r

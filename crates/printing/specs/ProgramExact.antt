@@ -1,6 +1,6 @@
 -- When the program `check` prints NOFILE, and that it prints the line of the two texts where both files are read.
 use Prim.Native.Nat.{ℕ}
-use mathlib.Core.Bool.{Bool, true, false, not, true≢false, false≢true}
+use mathlib.Core.Bool.{Bool, true, false, true≢false, false≢true}
 use mathlib.Core.List.{List}
 use mathlib.Core.Logic.{_↔_}
 use mathlib.Core.Path.{_≡_, refl, sym, ap}
@@ -10,7 +10,7 @@ use Rattle.tables.specs.declared.Name.{Name}
 use Rattle.text.specs.Forms.{bytes}
 use Rattle.answering.specs.declared.Answer.{Answer}
 use Rattle.printing.specs.Line.{field, lineOf, checkLine}
-use Rattle.printing.specs.Program.{File, held, unread, fileOf, noFile, programLine}
+use Rattle.printing.specs.Program.{noFile, programLine}
 
 -- no answer's line begins as NOFILE does
 answered : (users : List Name) (answer : Answer) → getD (lineOf users answer) 0 0 ≡ 78 → ⊥
@@ -31,44 +31,25 @@ told-apart : noFile (bytes "policy") ≡ noFile (bytes "evidence") → ⊥
 unfolding noFile field
 told-apart same = omega (arith, ap (λ (l : List ℕ). getD l 7 0) same)
 
--- a file that is read is not one that can't be read
-known : (text : List ℕ) → held text ≡ unread → ⊥
-known text same = let z : _≡_ {A = ℕ} 0 1 = cc in omega arith
-
 -- NOFILE policy is printed exactly where the policy can't be read.
-pub no-policy : (policy evidence : File) → programLine policy evidence ≡ noFile (bytes "policy") ↔ policy ≡ unread
+pub no-policy : (policyRead : Bool) (policy : List ℕ) (evidenceRead : Bool) (evidence : List ℕ) → programLine policyRead policy evidenceRead evidence ≡ noFile (bytes "policy") ↔ policyRead ≡ false
 unfolding programLine
-no-policy unread evidence = (λ same. refl, λ same. refl)
-no-policy (held policy) unread = (λ same. absurd (told-apart (sym same)), λ same. absurd (known policy same))
-no-policy (held policy) (held evidence) = (λ same. absurd (checked policy evidence _ same), λ same. absurd (known policy same))
+no-policy false policy evidenceRead evidence = (λ same. refl, λ is. refl)
+no-policy true policy false evidence = (λ same. absurd (told-apart (sym same)), λ is. absurd (true≢false is))
+no-policy true policy true evidence = (λ same. absurd (checked policy evidence _ same), λ is. absurd (true≢false is))
 
--- NOFILE evidence is printed exactly where the policy is read and the evidence can't be.
-pub no-evidence : (policy evidence : File) → programLine policy evidence ≡ noFile (bytes "evidence") ↔ (policy ≡ unread → ⊥) × (evidence ≡ unread)
+-- NOFILE evidence is printed exactly where the policy can be read and the evidence can't.
+pub no-evidence : (policyRead : Bool) (policy : List ℕ) (evidenceRead : Bool) (evidence : List ℕ)
+    → programLine policyRead policy evidenceRead evidence ≡ noFile (bytes "evidence") ↔ (policyRead ≡ true) × (evidenceRead ≡ false)
 unfolding programLine
-no-evidence unread evidence = (λ same. absurd (told-apart same), λ read. absurd (read .0 refl))
-no-evidence (held policy) unread = (λ same. (known policy, refl), λ read. refl)
-no-evidence (held policy) (held evidence) = (λ same. absurd (checked policy evidence _ same), λ read. absurd (known evidence (read .1)))
+no-evidence false policy evidenceRead evidence = (λ same. absurd (told-apart same), λ is. absurd (false≢true (is .0)))
+no-evidence true policy false evidence = (λ same. (refl, refl), λ is. refl)
+no-evidence true policy true evidence = (λ same. absurd (checked policy evidence _ same), λ is. absurd (true≢false (is .1)))
 
--- Where both are read it is the line of the two texts.
-pub both-read : (policy evidence : List ℕ) → programLine (held policy) (held evidence) ≡ checkLine policy evidence
+-- Where both can be read it is the line of the two texts.
+pub both-read : (policyRead : Bool) (policy : List ℕ) (evidenceRead : Bool) (evidence : List ℕ) → policyRead ≡ true → evidenceRead ≡ true
+    → programLine policyRead policy evidenceRead evidence ≡ checkLine policy evidence
 unfolding programLine
-both-read policy evidence = refl
-
--- ---- the same by whether each file is read
-
-pub policy-unread : (read : Bool) (text : List ℕ) (evidence : File) → not read ≡ true → noFile (bytes "policy") ≡ programLine (fileOf read text) evidence
-unfolding programLine fileOf
-policy-unread true text evidence is = absurd (false≢true is)
-policy-unread false text evidence is = refl
-
-pub evidence-unread : (first : Bool) (policy : List ℕ) (second : Bool) (text : List ℕ) → not first ≡ false → not second ≡ true → noFile (bytes "evidence") ≡ programLine (fileOf first policy) (fileOf second text)
-unfolding programLine fileOf
-evidence-unread true policy true text first-is second-is = absurd (false≢true second-is)
-evidence-unread true policy false text first-is second-is = refl
-evidence-unread false policy second text first-is second-is = absurd (true≢false first-is)
-
-pub texts-read : (first : Bool) (policy : List ℕ) (second : Bool) (evidence : List ℕ) → not first ≡ false → not second ≡ false → checkLine policy evidence ≡ programLine (fileOf first policy) (fileOf second evidence)
-unfolding programLine fileOf
-texts-read true policy true evidence first-is second-is = refl
-texts-read true policy false evidence first-is second-is = absurd (true≢false second-is)
-texts-read false policy second evidence first-is second-is = absurd (true≢false first-is)
+both-read false policy evidenceRead evidence first second = absurd (false≢true first)
+both-read true policy false evidence first second = absurd (false≢true second)
+both-read true policy true evidence first second = refl

@@ -8,7 +8,7 @@ ghost use Rattle.text.specs.Forms.{bytes};
 ghost use Rattle.writing.specs.Written.{spelled, decimal};
 ghost use Rattle.printing.specs.Line.{field, partText, lineOf, checkLine, shownLength, shown};
 ghost use Rattle.printing.specs.LineSteps.{Goes, Line};
-ghost use Rattle.printing.specs.Program.{fileOf, programLine};
+ghost use Rattle.printing.specs.Program.{programLine};
 ghost use Rattle.printing.specs.Showing.{Shows};
 ghost use Rattle.answering.specs.declared.Answer.{Answer};
 ghost use Rattle.answering.specs.Named.{nameIn};
@@ -171,8 +171,8 @@ pub fn program_line(
     evidence: &[u8],
     out: &mut [u8],
 ) -> usize
-    ensures { λ r. ⌜ r ≡ shownLength (programLine (fileOf «policy_read» (now (policy .entry))) (fileOf «evidence_read» (now (evidence .entry)))) (now (out .entry)) ⌝ }
-    ensures { λ r. ⌜ now (out .exit) ≡ shown (programLine (fileOf «policy_read» (now (policy .entry))) (fileOf «evidence_read» (now (evidence .entry)))) (now (out .entry)) ⌝ }
+    ensures { λ r. ⌜ r ≡ shownLength (programLine «policy_read» (now (policy .entry)) «evidence_read» (now (evidence .entry))) (now (out .entry)) ⌝ }
+    ensures { λ r. ⌜ now (out .exit) ≡ shown (programLine «policy_read» (now (policy .entry)) «evidence_read» (now (evidence .entry))) (now (out .entry)) ⌝ }
     ensures { λ r. ⌜ (r ≤ length (now (out .exit))) × (r ≡ length (take r (now (out .exit)))) ⌝ }
 {
     if !policy_read {

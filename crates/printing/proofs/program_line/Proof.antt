@@ -2,8 +2,10 @@
 use Rattle.printing.specs.Showing.{shows-as}
 use Rattle.printing.specs.Line.{field}
 use Rattle.printing.specs.Program.{noFile}
-use Rattle.printing.specs.ProgramExact.{policy-unread, evidence-unread, texts-read}
+use Rattle.printing.specs.ProgramExact.{no-policy, no-evidence, both-read}
 use borrow.Author.Needs.{needs}
+use borrow.Author.Tests.{not-true, not-false}
+use mathlib.Core.Path.{sym}
 use Rattle.printing.proofs.program_line.Statement.{statement}
 use Rattle.printing.proofs.program_line.Tie as tie
 
@@ -18,7 +20,10 @@ same-length c = search needs
 
 returns : tie.Need-returns
 unfolding noFile field
-returns c = let start = c .before .before .before .before .before .before .before .before .before in shows-as (start .args .out .now) (policy-unread (start .args .policy-read) (start .args .policy .now) _ (c .before .before .before .before .before .if1 .taken)) (c .before .before .show-line .ensures)
+returns c =
+    let args = c .before .before .before .before .before .before .before .before .before .args in
+    let is = no-policy (args .policy-read) (args .policy .now) (args .evidence-read) (args .evidence .now) .1 (not-true (args .policy-read) (c .before .before .before .before .before .if1 .taken)) in
+    shows-as (args .out .now) (sym is) (c .before .before .show-line .ensures)
 
 slice-aggregate-show-line-2 : tie.Need-slice-aggregate-show-line-2
 slice-aggregate-show-line-2 c = search needs
@@ -32,8 +37,11 @@ same-length-2 c = search needs
 returns-2 : tie.Need-returns-2
 unfolding noFile field
 returns-2 c =
-    let start = c .before .before .before .before .before .before .before .before .before .before in
-    shows-as (start .args .out .now) (evidence-unread (start .args .policy-read) (start .args .policy .now) (start .args .evidence-read) (start .args .evidence .now) (c .before .before .before .before .before .before .if1 .left) (c .before .before .before .before .before .if2 .taken)) (c .before .before .show-line2 .ensures)
+    let args = c .before .before .before .before .before .before .before .before .before .before .args in
+    let first = not-false (args .policy-read) (c .before .before .before .before .before .before .if1 .left) in
+    let second = not-true (args .evidence-read) (c .before .before .before .before .before .if2 .taken) in
+    let is = no-evidence (args .policy-read) (args .policy .now) (args .evidence-read) (args .evidence .now) .1 (first, second) in
+    shows-as (args .out .now) (sym is) (c .before .before .show-line2 .ensures)
 
 check-line-requires : tie.Need-check-line-requires
 check-line-requires c κs = search needs
@@ -43,8 +51,11 @@ same-length-3 c = search needs
 
 returns-3 : tie.Need-returns-3
 returns-3 c =
-    let start = c .before .before .before .before .before .before .before .before .before in
-    shows-as (start .args .out .now) (texts-read (start .args .policy-read) (start .args .policy .now) (start .args .evidence-read) (start .args .evidence .now) (c .before .before .before .before .before .if1 .left) (c .before .before .before .before .if2 .left)) (c .before .before .check-line .ensures)
+    let args = c .before .before .before .before .before .before .before .before .before .args in
+    let first = not-false (args .policy-read) (c .before .before .before .before .before .if1 .left) in
+    let second = not-false (args .evidence-read) (c .before .before .before .before .if2 .left) in
+    let is = both-read (args .policy-read) (args .policy .now) (args .evidence-read) (args .evidence .now) first second in
+    shows-as (args .out .now) (sym is) (c .before .before .check-line .ensures)
 
 pub program-line-spec : {M : Type 1} → statement M
 program-line-spec =
