@@ -1,5 +1,5 @@
 /* The library's functions for C callers: a policy text and a piece of evidence judged, its line, its bad line, the sum of two
-   typings, and the merge of two judged policies.
+   typings, the merge of two judged policies, and the bad line of a typing that they refuse.
 
    Every slice is two arguments, where it begins and how many elements it has. A pointer is never null, not even where the
    length is 0, and numbers stand at addresses divisible by 8. No text is changed, and texts may overlap each other. What is
@@ -8,21 +8,20 @@
    Nothing else is asked: every text of every length has an answer. No function keeps anything between calls, allocates or
    prints, so calls from several threads do not meet. A call takes less than 512 KB of stack.
 
-   Each function answers how many elements it wrote, from the start on; past them the array or the buffer keeps what it had.
-   0 says that the array or the buffer was too short, and then nothing was written.
+   WHAT WAS ANSWERED IS THE NUMBER THAT A FUNCTION RETURNS, AND NOTHING ELSE SAYS IT. NO ARRAY AND NO BUFFER TELLS WHICH ANSWER
+   IT BELONGS TO: LOOK AT THE NUMBER FIRST. ARBAC_NO_ROOM IS NO ANSWER: THE ARRAY WAS TOO SHORT, NOTHING WAS JUDGED AND NOTHING
+   WAS WRITTEN. A POLICY IS SAFE ONLY WHERE `arbac_check` RETURNS ARBAC_SAFE.
 
-   The first number that is told is the answer's own, and the values follow it:
+   After every number but ARBAC_NO_ROOM all values of the array are told, as many as its size below says: those that are listed
+   for the answer, in that order, and zeros past them. Past its size the array keeps what it had.
 
-     0 SAFE   1 ATTACKED   2 UNPROVED   3 BROKEN   4 SHORT
-     10 policy too long        11 policy malformed        12 policy line above a count limit
-     13 undeclared name in the policy                     14 evidence too long         15 evidence malformed
-     16 undeclared name, wrong role name at its place or rule number above the count in the evidence
-     17 the two policies' roles, users, clearances or holdings differ
-     18 the sum's text is longer than the buffer or than 32,768 bytes
-     19 a joint count is above its limit
+   `out` of the sum and the merge holds a text after ARBAC_DONE only, and past the text it keeps what it had. After every other
+   number, ARBAC_NO_ROOM among them, all of it is as it was.
 
-   A line is counted from 1, and is 0 for 10, 14, 17, 18 and 19. Users, rules, goals and steps are counted from 1. A part is
-   1 holdings, 2 assign, 3 revoke, 4 goal; its number is that of the user, the rule or the goal. */
+   `arbac_check_line` RETURNS A LENGTH, AND NOT AN ANSWER'S NUMBER. FROM IT ALONE 0 SAYS THAT THE BUFFER WAS TOO SHORT, and then
+   nothing was written.
+
+   A line is counted from 1, and is 0 for 10, 14, 17, 18 and 19. Users, rules, goals and steps are counted from 1. */
 #ifndef ARBAC_H
 #define ARBAC_H
 
@@ -33,79 +32,129 @@
 extern "C" {
 #endif
 
-/* How many numbers or bytes have room for every answer. Where an array has fewer numbers, 0 is answered, also where the answer
-   at hand would fit. A line needs as many bytes as it has, and none has more than ARBAC_LINE. */
-#define ARBAC_CHECK 6
+/* The array was too short: this is no answer and no text. */
+#define ARBAC_NO_ROOM 255
+
+/* The verdicts on a piece of evidence. */
+#define ARBAC_SAFE 0
+#define ARBAC_ATTACKED 1
+#define ARBAC_UNPROVED 2
+#define ARBAC_BROKEN 3
+#define ARBAC_SHORT 4
+
+/* The success of a sum or a merge: the text is in `out`. */
+#define ARBAC_DONE 0
+
+/* The refusals. */
+#define ARBAC_POLICY_TOO_LONG 10
+#define ARBAC_POLICY_MALFORMED 11
+#define ARBAC_POLICY_ABOVE_LIMIT 12 /* a line above a count limit */
+#define ARBAC_POLICY_UNDECLARED 13 /* an undeclared name */
+#define ARBAC_EVIDENCE_TOO_LONG 14
+#define ARBAC_EVIDENCE_MALFORMED 15
+#define ARBAC_EVIDENCE_UNDECLARED 16 /* an undeclared name, a wrong role name at its place or a rule number above the count */
+#define ARBAC_DIRECTORIES_DIFFER 17 /* roles, users, clearances or holdings of the two policies */
+#define ARBAC_SUM_TOO_LONG 18 /* the sum's text is longer than `out` or than 32,768 bytes */
+#define ARBAC_JOINT_ABOVE_LIMIT 19 /* a joint count above its limit */
+
+/* The parts of a policy. The number beside a part is that of the user, the rule or the goal. */
+#define ARBAC_PART_HOLDINGS 1
+#define ARBAC_PART_ASSIGN 2
+#define ARBAC_PART_REVOKE 3
+#define ARBAC_PART_GOAL 4
+
+/* The texts: of a bad line, of a sum and of a merge. A refusal of a sum or a merge that speaks of none has 0. */
+#define ARBAC_IN_POLICY 1
+#define ARBAC_IN_EVIDENCE 2
+
+#define ARBAC_SUM_POLICY 1
+#define ARBAC_SUM_FIRST 2
+#define ARBAC_SUM_SECOND 3
+
+#define ARBAC_MERGE_POLICY_1 1
+#define ARBAC_MERGE_TYPING_1 2
+#define ARBAC_MERGE_POLICY_2 3
+#define ARBAC_MERGE_TYPING_2 4
+
+/* The judgings of a merge. */
+#define ARBAC_TYPING_1_ON_POLICY_1 1
+#define ARBAC_TYPING_2_ON_POLICY_2 2
+#define ARBAC_TYPING_1_ON_RULES_2 3
+#define ARBAC_TYPING_2_ON_RULES_1 4
+
+/* How many numbers or bytes have room for every answer. An array of fewer numbers has no room, also where the answer at hand
+   has fewer values. A line needs as many bytes as it has, and none has more than ARBAC_LINE. A text has at most ARBAC_TEXT. */
+#define ARBAC_CHECK 5
 #define ARBAC_LINE 128
-#define ARBAC_BAD_LINE 3
-#define ARBAC_SUM 3
-#define ARBAC_MERGE 7
+#define ARBAC_BAD_LINE 2
+#define ARBAC_SUM 2
+#define ARBAC_MERGE 6
 #define ARBAC_TEXT 32768
 
 /* Judges a piece of evidence, a typing or a trace, over a policy.
 
-     told   0 SAFE, roles, assign rules, revoke rules, goals, pinned names      6
-            1 ATTACKED, steps, user, goal                                       4
-            2 UNPROVED, part, number                                            3
-            3 BROKEN, step                                                      2
-            4 SHORT, steps                                                      2
-            10 to 16, line                                                      2
-            nothing, where values_length is below 6                             0  */
-size_t arbac_check(const uint8_t *policy, size_t policy_length,
-                   const uint8_t *evidence, size_t evidence_length,
-                   uint64_t *values, size_t values_length);
+     ARBAC_SAFE       roles, assign rules, revoke rules, goals, pinned names
+     ARBAC_ATTACKED   steps, user, goal, 0, 0
+     ARBAC_UNPROVED   part, number, 0, 0, 0
+     ARBAC_BROKEN     step, 0, 0, 0, 0
+     ARBAC_SHORT      steps, 0, 0, 0, 0
+     10 to 16         line, 0, 0, 0, 0
+     ARBAC_NO_ROOM    nothing, where values_length is below ARBAC_CHECK  */
+uint64_t arbac_check(const uint8_t *policy, size_t policy_length,
+                     const uint8_t *evidence, size_t evidence_length,
+                     uint64_t *values, size_t values_length);
 
-/* The same answer as the line that the program `check` prints, fields parted by tabs, with its LF and no NUL.
-
-     written   the line                                                         its length
-               nothing, where line_length is below that                         0  */
+/* The same answer as the line that the program `check` prints, fields parted by tabs, with its LF and no NUL. Returns its
+   length; 0, and nothing is written, where line_length is below that. */
 size_t arbac_check_line(const uint8_t *policy, size_t policy_length,
                         const uint8_t *evidence, size_t evidence_length,
                         uint8_t *line, size_t line_length);
 
-/* Where the bad line stands that 11, 12, 13, 15 or 16 speak of.
+/* Where the bad line stands that 11, 12, 13, 15 or 16 of `arbac_check` speak of.
 
-     told   0 policy or 1 evidence, where the line begins, its length without LF    3
-            0, 0, 0, where `end` is missing and for every other answer              3
-            nothing, where place_length is below 3                                  0
+     ARBAC_IN_POLICY     where the line begins in the policy, its length without LF;
+                         0, 0 where `end` is missing and for every other answer
+     ARBAC_IN_EVIDENCE   where the line begins in the evidence, its length without LF
+     ARBAC_NO_ROOM       nothing, where place_length is below ARBAC_BAD_LINE
 
-   A blank first line of the policy is told as 0, 0, 0 too; arbac_check has its number. */
-size_t arbac_bad_line(const uint8_t *policy, size_t policy_length,
-                      const uint8_t *evidence, size_t evidence_length,
-                      uint64_t *place, size_t place_length);
+   A blank first line of the policy is 0, 0 too; arbac_check has its number. */
+uint64_t arbac_bad_line(const uint8_t *policy, size_t policy_length,
+                        const uint8_t *evidence, size_t evidence_length,
+                        uint64_t *place, size_t place_length);
+
+/* The same of a policy and a text where a typing is wanted, which is read as a typing whatever its first line: the bad line of a
+   typing that a sum or a merge refuses with 15 or 16, over the policy that it is read over, or of a policy that they refuse with
+   11, 12 or 13. A trace there is bad at line 1. */
+uint64_t arbac_bad_typing_line(const uint8_t *policy, size_t policy_length,
+                               const uint8_t *typing, size_t typing_length,
+                               uint64_t *place, size_t place_length);
 
 /* Writes the sum of two typings over one policy, accepted or not, as a typing text.
 
-     told   0, pinned names, length of the text in `out`                        3
-            10 to 16, text, line                                                3
-            18, 0, 0                                                            3
-            nothing, where values_length is below 3                             0
-
-   The text is 1 policy, 2 first typing, 3 second typing. `out` is as it was after every answer but the first number 0. */
-size_t arbac_sum(const uint8_t *policy, size_t policy_length,
-                 const uint8_t *first, size_t first_length,
-                 const uint8_t *second, size_t second_length,
-                 uint8_t *out, size_t out_length,
-                 uint64_t *values, size_t values_length);
+     ARBAC_DONE            pinned names, length of the text in `out`
+     10 to 16              text, line
+     ARBAC_SUM_TOO_LONG    0, 0
+     ARBAC_NO_ROOM         nothing, where values_length is below ARBAC_SUM  */
+uint64_t arbac_sum(const uint8_t *policy, size_t policy_length,
+                   const uint8_t *first, size_t first_length,
+                   const uint8_t *second, size_t second_length,
+                   uint8_t *out, size_t out_length,
+                   uint64_t *values, size_t values_length);
 
 /* Merges two policies over the same users and roles, each with a typing of its own, and writes the sum of the typings, which
    is accepted for all rules and goals together.
 
-     told   0, roles, joint assign rules, revoke rules and goals, pinned names, length of the text in `out`    7
-            2 UNPROVED, judging, part, number                                                                  4
-            10 to 16, text, line                                                                               3
-            17, 18 or 19, 0, 0                                                                                 3
-            nothing, where values_length is below 7                                                            0
-
-   The judging is 1 typing one on policy one, 2 typing two on policy two, 3 typing one on rules two, 4 typing two on rules one.
-   The text is 1 policy one, 2 typing one, 3 policy two, 4 typing two. `out` is as it was after every answer but the first
-   number 0. */
-size_t arbac_merge(const uint8_t *policy_1, size_t policy_1_length,
-                   const uint8_t *typing_1, size_t typing_1_length,
-                   const uint8_t *policy_2, size_t policy_2_length,
-                   const uint8_t *typing_2, size_t typing_2_length,
-                   uint8_t *out, size_t out_length,
-                   uint64_t *values, size_t values_length);
+     ARBAC_DONE       roles, joint assign rules, revoke rules and goals, pinned names, length of the text in `out`
+     ARBAC_UNPROVED   judging, part, number, 0, 0, 0
+     10 to 16         text, line, 0, 0, 0, 0
+     17, 18 or 19     0, 0, 0, 0, 0, 0
+     ARBAC_NO_ROOM    nothing, where values_length is below ARBAC_MERGE  */
+uint64_t arbac_merge(const uint8_t *policy_1, size_t policy_1_length,
+                     const uint8_t *typing_1, size_t typing_1_length,
+                     const uint8_t *policy_2, size_t policy_2_length,
+                     const uint8_t *typing_2, size_t typing_2_length,
+                     uint8_t *out, size_t out_length,
+                     uint64_t *values, size_t values_length);
 
 #ifdef __cplusplus
 }

@@ -1,4 +1,5 @@
-/* The library called from C: the desk policy judged, a blank field found, and the guard pair summed and merged. */
+/* The library called from C: the desk policy judged, a blank field found, the guard pair summed and merged, and a trace refused
+   where a typing is wanted. What a function returns is looked at before anything that it wrote. It is C11 and C++17. */
 #include <inttypes.h>
 #include <stdio.h>
 #include <stdlib.h>
@@ -23,48 +24,158 @@ static struct text read_text(const char *path) {
     return text;
 }
 
-static void print_numbers(const char *name, const uint64_t *numbers, size_t count) {
-    printf("%s", name);
-    for (size_t i = 0; i < count; i++) {
-        printf(" %" PRIu64, numbers[i]);
-    }
-    printf("\n");
+/* Every array here has room, so this is never called. */
+static void stop(const char *what) {
+    fprintf(stderr, "%s: no room\n", what);
+    exit(1);
 }
 
-/* What `check` prints for the two texts of a folder, the numbers of the answer, and the bad line where there is one. */
-static void check_folder(const char *policy_path, const char *evidence_path) {
+static const char *part_name(uint64_t part) {
+    switch (part) {
+    case ARBAC_PART_HOLDINGS:
+        return "holdings";
+    case ARBAC_PART_ASSIGN:
+        return "assign";
+    case ARBAC_PART_REVOKE:
+        return "revoke";
+    default:
+        return "goal";
+    }
+}
+
+/* The line that is wrong, as a part of the text that it stands in. */
+static void print_bad_line(uint64_t text, const uint64_t *place, const struct text *policy, const struct text *evidence) {
+    const uint8_t *bytes = NULL;
+    switch (text) {
+    case ARBAC_IN_POLICY:
+        bytes = policy->bytes;
+        break;
+    case ARBAC_IN_EVIDENCE:
+        bytes = evidence->bytes;
+        break;
+    default:
+        stop("bad line");
+    }
+    printf("bad line \"%.*s\"\n", (int)place[1], (const char *)bytes + place[0]);
+}
+
+/* What `check` prints for two texts, the values of the answer, and the bad line where the answer speaks of one. */
+static void check_texts(const char *policy_path, const char *evidence_path) {
     struct text policy = read_text(policy_path), evidence = read_text(evidence_path);
     uint8_t line[ARBAC_LINE];
     size_t length = arbac_check_line(policy.bytes, policy.length, evidence.bytes, evidence.length, line, sizeof line);
+    if (length == 0) {
+        stop("line");
+    }
     fwrite(line, 1, length, stdout);
 
-    uint64_t values[ARBAC_CHECK], place[ARBAC_BAD_LINE];
-    size_t count = arbac_check(policy.bytes, policy.length, evidence.bytes, evidence.length, values, ARBAC_CHECK);
-    print_numbers("check", values, count);
+    uint64_t values[ARBAC_CHECK], place[ARBAC_BAD_LINE], text;
+    uint64_t answer = arbac_check(policy.bytes, policy.length, evidence.bytes, evidence.length, values, ARBAC_CHECK);
+    switch (answer) {
+    case ARBAC_SAFE:
+        printf("safe: %" PRIu64 " roles, %" PRIu64 " assign rules, %" PRIu64 " revoke rules, %" PRIu64 " goals, %" PRIu64 " names pinned\n",
+               values[0], values[1], values[2], values[3], values[4]);
+        break;
+    case ARBAC_ATTACKED:
+        printf("attacked: %" PRIu64 " steps give user %" PRIu64 " all roles of goal %" PRIu64 "\n", values[0], values[1], values[2]);
+        break;
+    case ARBAC_UNPROVED:
+        printf("unproved: %s %" PRIu64 "\n", part_name(values[0]), values[1]);
+        break;
+    case ARBAC_BROKEN:
+        printf("broken: step %" PRIu64 "\n", values[0]);
+        break;
+    case ARBAC_SHORT:
+        printf("short: %" PRIu64 " steps\n", values[0]);
+        break;
+    case ARBAC_NO_ROOM:
+        stop("check");
+        break;
+    case ARBAC_POLICY_TOO_LONG:
+    case ARBAC_EVIDENCE_TOO_LONG:
+        printf("refused %" PRIu64 ": too long\n", answer);
+        break;
+    default:
+        printf("refused %" PRIu64 " at line %" PRIu64 "\n", answer, values[0]);
+        text = arbac_bad_line(policy.bytes, policy.length, evidence.bytes, evidence.length, place, ARBAC_BAD_LINE);
+        print_bad_line(text, place, &policy, &evidence);
+    }
+}
 
-    arbac_bad_line(policy.bytes, policy.length, evidence.bytes, evidence.length, place, ARBAC_BAD_LINE);
-    const uint8_t *bad = place[0] == 0 ? policy.bytes : evidence.bytes;
-    printf("bad line \"%.*s\"\n", (int)place[2], (const char *)bad + place[1]);
+/* The sum of two typings over a policy, or the refusal with its bad line. */
+static void print_sum(const struct text *policy, const struct text *first, const struct text *second) {
+    uint8_t out[ARBAC_TEXT];
+    uint64_t values[ARBAC_SUM], place[ARBAC_BAD_LINE], text;
+    const struct text *typing = first;
+    uint64_t answer = arbac_sum(policy->bytes, policy->length, first->bytes, first->length, second->bytes, second->length,
+                                out, sizeof out, values, ARBAC_SUM);
+    switch (answer) {
+    case ARBAC_DONE:
+        printf("sum: %" PRIu64 " names pinned, %" PRIu64 " bytes\n", values[0], values[1]);
+        fwrite(out, 1, values[1], stdout);
+        break;
+    case ARBAC_NO_ROOM:
+        stop("sum");
+        break;
+    case ARBAC_SUM_TOO_LONG:
+    case ARBAC_POLICY_TOO_LONG:
+    case ARBAC_EVIDENCE_TOO_LONG:
+        printf("no sum: %" PRIu64 "\n", answer);
+        break;
+    default:
+        printf("no sum: %" PRIu64 ", text %" PRIu64 " at line %" PRIu64 "\n", answer, values[0], values[1]);
+        if (values[0] == ARBAC_SUM_SECOND) {
+            typing = second;
+        }
+        text = arbac_bad_typing_line(policy->bytes, policy->length, typing->bytes, typing->length, place, ARBAC_BAD_LINE);
+        print_bad_line(text, place, policy, typing);
+    }
+}
+
+/* The merge of two policies with a typing each, or why there is none. */
+static void print_merge(const struct text *policy_1, const struct text *typing_1, const struct text *policy_2, const struct text *typing_2) {
+    uint8_t out[ARBAC_TEXT];
+    uint64_t values[ARBAC_MERGE];
+    uint64_t answer = arbac_merge(policy_1->bytes, policy_1->length, typing_1->bytes, typing_1->length, policy_2->bytes,
+                                  policy_2->length, typing_2->bytes, typing_2->length, out, sizeof out, values, ARBAC_MERGE);
+    switch (answer) {
+    case ARBAC_DONE:
+        printf("merged: %" PRIu64 " names pinned, %" PRIu64 " bytes\n", values[4], values[5]);
+        fwrite(out, 1, values[5], stdout);
+        break;
+    case ARBAC_UNPROVED:
+        printf("not merged: judging %" PRIu64 ", %s %" PRIu64 "\n", values[0], part_name(values[1]), values[2]);
+        break;
+    case ARBAC_NO_ROOM:
+        stop("merge");
+        break;
+    default:
+        printf("not merged: %" PRIu64 ", text %" PRIu64 " at line %" PRIu64 "\n", answer, values[0], values[1]);
+    }
+}
+
+/* An array of zeros that is one number too short: it is as it was, and what is returned is no verdict. */
+static void check_without_room(const char *policy_path, const char *evidence_path) {
+    struct text policy = read_text(policy_path), evidence = read_text(evidence_path);
+    uint64_t values[ARBAC_CHECK] = {0, 0, 0, 0, 0};
+    uint64_t answer = arbac_check(policy.bytes, policy.length, evidence.bytes, evidence.length, values, ARBAC_CHECK - 1);
+    printf("%s\n", answer == ARBAC_NO_ROOM ? "no room, no verdict" : "a verdict");
 }
 
 int main(void) {
-    check_folder("examples/desk/policy.txt", "examples/desk/evidence.txt");
-    check_folder("examples/blank_field/policy.txt", "examples/blank_field/evidence.txt");
+    check_texts("examples/desk/policy.txt", "examples/desk/evidence.txt");
+    check_texts("examples/blank_field/policy.txt", "examples/blank_field/evidence.txt");
+    check_without_room("examples/desk/policy.txt", "examples/desk/evidence.txt");
 
+    /* each policy of the guard pair is safe alone, and the two together are not: typing one fails on revoke rule 1 of policy two */
     struct text policy_1 = read_text("crates/cases/data/guard_a.policy"), typing_1 = read_text("crates/cases/data/guard_a.typing");
     struct text policy_2 = read_text("crates/cases/data/guard_b.policy"), typing_2 = read_text("crates/cases/data/guard_b.typing");
-    uint8_t out[ARBAC_TEXT];
-    uint64_t values[ARBAC_MERGE];
-    size_t count = arbac_sum(policy_1.bytes, policy_1.length, typing_1.bytes, typing_1.length, typing_2.bytes, typing_2.length,
-                             out, sizeof out, values, ARBAC_MERGE);
-    print_numbers("sum", values, count);
-    if (values[0] == 0) {
-        fwrite(out, 1, values[2], stdout);
-    }
+    print_sum(&policy_1, &typing_1, &typing_2);
+    print_merge(&policy_1, &typing_1, &policy_2, &typing_2);
 
-    /* UNPROVED, typing one on rules two, revoke rule 1: each policy is safe alone, and the two together are not */
-    count = arbac_merge(policy_1.bytes, policy_1.length, typing_1.bytes, typing_1.length, policy_2.bytes, policy_2.length,
-                        typing_2.bytes, typing_2.length, out, sizeof out, values, ARBAC_MERGE);
-    print_numbers("merge", values, count);
+    /* a trace is no typing */
+    struct text loose = read_text("examples/loose_desk/policy.txt"), trace = read_text("examples/loose_desk/evidence.txt");
+    struct text typing = read_text("examples/desk/evidence.txt");
+    print_sum(&loose, &typing, &trace);
     return 0;
 }

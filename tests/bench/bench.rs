@@ -2,9 +2,12 @@
 //! grow with the number of roles, and how much stack a call takes. FOLDER has the desk and the
 //! hostile texts. Status 1 where the two answer differently.
 
+use std::collections::BTreeSet;
 use std::path::Path;
 use std::time::{Duration, Instant};
 
+#[path = "../differential/answers.rs"]
+mod answers;
 #[path = "../differential/drafts.rs"]
 mod drafts;
 #[path = "../differential/library.rs"]
@@ -15,8 +18,8 @@ mod reference;
 mod stack;
 mod texts;
 
-use reference::{Answer, Merge};
-use texts::{full, halves, read_only, trace, Closing, Input};
+use answers::Said;
+use texts::{desks, every_place, full, halves, read_only, sum_of, trace, Closing, Input};
 
 /// A time is the median of at least this many calls.
 const CALLS: usize = 9;
@@ -41,67 +44,69 @@ const HOSTILE: [(&str, &str); 8] = [
     ("desk.policy", "tabs.trace"),
 ];
 
-/// What the library writes into, and the numbers of the answer.
+/// What the library writes into, and what it answers.
 struct Lent {
-    values: [u64; 7],
+    values: [u64; answers::MERGE],
     out: Vec<u8>,
-    count: usize,
+    answered: u64,
 }
 
 impl Lent {
     fn new() -> Lent {
-        Lent { values: [0; 7], out: vec![0; TEXT_LIMIT], count: 0 }
+        Lent { values: [0; answers::MERGE], out: vec![0; TEXT_LIMIT], answered: 0 }
     }
 
     fn clear(&mut self) {
-        self.values = [0; 7];
+        self.values.fill(0);
         self.out.fill(0);
-        self.count = 0;
+        self.answered = 0;
     }
 
-    fn numbers(&self) -> &[u64] {
-        &self.values[..self.count]
+    fn holds(&self, said: &Said) -> bool {
+        self.answered == said.answered
+            && self.values.starts_with(&said.values)
+            && self.out.starts_with(&said.text)
     }
 }
 
 fn ask_library(texts: &[Vec<u8>], lent: &mut Lent) {
-    lent.count = match texts {
+    lent.answered = match texts {
         [policy, evidence] => library::check(policy, evidence, &mut lent.values),
+        [policy, first, second] => {
+            library::sum(policy, first, second, &mut lent.out, &mut lent.values)
+        }
         [policy_1, typing_1, policy_2, typing_2] => {
             library::merge(policy_1, typing_1, policy_2, typing_2, &mut lent.out, &mut lent.values)
         }
-        _ => unreachable!("two texts or four"),
+        _ => unreachable!("two texts, three or four"),
     };
 }
 
-/// The numbers of the reference's answer, and the text that it made.
-fn ask_reference(texts: &[Vec<u8>]) -> (Vec<u64>, Vec<u8>) {
+/// What the reference answers.
+enum Answer {
+    Check(reference::Answer),
+    Sum(reference::Sum),
+    Merge(reference::Merge),
+}
+
+fn ask_reference(texts: &[Vec<u8>]) -> Answer {
     match texts {
-        [policy, evidence] => {
-            let numbers = match reference::check(policy, evidence) {
-                Answer::Safe { roles, assigns, revokes, goals, pinned } => {
-                    vec![0, roles, assigns, revokes, goals, pinned]
-                }
-                Answer::Attacked { steps, user, goal, .. } => vec![1, steps, user + 1, goal],
-                Answer::Unproved { part, number } => vec![2, part + 1, number],
-                Answer::Broken { step } => vec![3, step],
-                Answer::Short { steps } => vec![4, steps],
-                Answer::Refused { number, line } => vec![number, line],
-            };
-            (numbers, Vec::new())
-        }
+        [policy, evidence] => Answer::Check(reference::check(policy, evidence)),
+        [policy, first, second] => Answer::Sum(reference::sum(policy, first, second, TEXT_LIMIT)),
         [policy_1, typing_1, policy_2, typing_2] => {
-            match reference::merge(policy_1, typing_1, policy_2, typing_2, TEXT_LIMIT) {
-                Merge::Done { roles, assigns, revokes, goals, pinned, length, text } => {
-                    (vec![0, roles, assigns, revokes, goals, pinned, length], text)
-                }
-                Merge::Unproved { part, number, which } => {
-                    (vec![2, which, part + 1, number], Vec::new())
-                }
-                Merge::Refused { number, line, which } => (vec![number, which, line], Vec::new()),
-            }
+            Answer::Merge(reference::merge(policy_1, typing_1, policy_2, typing_2, TEXT_LIMIT))
         }
-        _ => unreachable!("two texts or four"),
+        _ => unreachable!("two texts, three or four"),
+    }
+}
+
+impl Answer {
+    fn said(&self) -> Said {
+        match self {
+            Answer::Check(answer) => Said::check(answer),
+            Answer::Sum(answer) => Said::sum(answer),
+            Answer::Merge(answer) => Said::merge(answer),
+        }
     }
 }
 
@@ -131,23 +136,21 @@ struct Times {
 /// Both sides on one input, and a comparison of what they answer and write.
 fn times(input: &Input, lent: &mut Lent) -> Times {
     let library = median(lent, Lent::clear, |lent| ask_library(&input.texts, lent));
-    let mut said = (Vec::new(), Vec::new());
+    let mut answer = None;
     let reference = median(
-        &mut said,
-        |said| *said = (Vec::new(), Vec::new()),
-        |said| *said = ask_reference(&input.texts),
+        &mut answer,
+        |answer| *answer = None,
+        |answer| *answer = Some(ask_reference(&input.texts)),
     );
-    let (numbers, text) = said;
-    if lent.numbers() != numbers || !lent.out.starts_with(&text) {
+    let said = answer.expect("an answer").said();
+    if !lent.holds(&said) {
         println!(
-            "{}: the library says {:?}, the reference {:?}",
-            input.name,
-            lent.numbers(),
-            numbers
+            "{}: the library answers {} with {:?}, the reference {} with {:?}",
+            input.name, lent.answered, lent.values, said.answered, said.values
         );
         std::process::exit(1);
     }
-    Times { answer: numbers[0], library: library, reference: reference }
+    Times { answer: said.answered, library: library, reference: reference }
 }
 
 fn microseconds(time: Duration) -> String {
@@ -214,7 +217,7 @@ fn print_growth(inputs: &[Input], lent: &mut Lent) {
 }
 
 /// The largest stack that a call takes over some inputs, and the input it takes it for.
-fn print_stack(call: &str, inputs: &[&Input], ask: impl Fn(&[Vec<u8>], &mut Lent)) {
+fn print_stack(call: &str, inputs: &[Input], ask: impl Fn(&[Vec<u8>], &mut Lent)) {
     let mut lent = Lent::new();
     let mut most = (0, "");
     for input in inputs {
@@ -223,7 +226,7 @@ fn print_stack(call: &str, inputs: &[&Input], ask: impl Fn(&[Vec<u8>], &mut Lent
             most = (taken, &input.name);
         }
     }
-    println!("| {} | {} | {} |", call, most.0, most.1);
+    println!("| {} | {} | {} | {} |", call, inputs.len(), most.0, most.1);
 }
 
 fn read(folder: &Path, name: &str) -> Vec<u8> {
@@ -286,18 +289,24 @@ fn main() {
     }
 
     println!("## Stack\n");
-    println!("| call | bytes of stack at most | for |\n|---|---|---|");
-    let asked: Vec<&Input> = check.iter().chain(&hostile).collect();
-    let merged: Vec<&Input> = merge.iter().collect();
-    print_stack("check", &asked, ask_library);
-    print_stack("check_line", &asked, |texts, lent| {
-        lent.count = library::check_line(&texts[0], &texts[1], &mut lent.out);
+    println!("| call | inputs | bytes of stack at most | for |\n|---|---|---|---|");
+    let names: BTreeSet<&str> = HOSTILE.iter().flat_map(|pair| [pair.0, pair.1]).collect();
+    let texts: Vec<(&str, Vec<u8>)> =
+        names.into_iter().map(|name| (name, read(folder, name))).collect();
+    let desks = desks(&check[0]);
+    let merges = every_place(&[&desks, &merge[0], &merge[1]], &texts);
+    let sums = every_place(&[&sum_of(&desks), &sum_of(&merge[0]), &sum_of(&merge[1])], &texts);
+    let checks = every_place(&check.iter().collect::<Vec<_>>(), &texts);
+    print_stack("check", &checks, ask_library);
+    print_stack("check_line", &checks, |texts, lent| {
+        lent.answered = library::check_line(&texts[0], &texts[1], &mut lent.out) as u64;
     });
-    print_stack("bad_line", &asked, |texts, lent| {
-        lent.count = library::bad_line(&texts[0], &texts[1], &mut lent.values);
+    print_stack("bad_line", &checks, |texts, lent| {
+        lent.answered = library::bad_line(&texts[0], &texts[1], &mut lent.values);
     });
-    print_stack("sum", &merged, |texts, lent| {
-        lent.count = library::sum(&texts[0], &texts[1], &texts[3], &mut lent.out, &mut lent.values);
+    print_stack("bad_typing_line", &checks, |texts, lent| {
+        lent.answered = library::bad_typing_line(&texts[0], &texts[1], &mut lent.values);
     });
-    print_stack("merge", &merged, ask_library);
+    print_stack("sum", &sums, ask_library);
+    print_stack("merge", &merges, ask_library);
 }

@@ -1,9 +1,9 @@
 //! The texts that are measured: policies of any size with typings that close in one round or in
-//! many, and a long trace.
+//! many, a long trace, and ordinary texts with a hostile one among them.
 
 use crate::drafts::{Assign, Policy, Revoke, RoleType, Step, User};
 
-/// Two texts for `check`, or four for `merge`.
+/// Two texts for `check`, three for `sum`, or four for `merge`.
 pub struct Input {
     pub name: String,
     pub texts: Vec<Vec<u8>>,
@@ -130,4 +130,33 @@ pub fn trace(steps: usize) -> Input {
         .collect();
     let name = format!("trace of {} steps", steps);
     Input::new(&name, &[&policy.text(), &policy.trace_text(&trace)])
+}
+
+/// A policy and a typing merged with themselves.
+pub fn desks(desk: &Input) -> Input {
+    let (policy, typing) = (&desk.texts[0], &desk.texts[1]);
+    Input::new("two desks", &[policy, typing, policy, typing])
+}
+
+/// The sum of the two typings of a merge, over its first policy.
+pub fn sum_of(merge: &Input) -> Input {
+    let texts = &merge.texts;
+    Input::new(&merge.name, &[&texts[0], &texts[1], &texts[3]])
+}
+
+/// Some inputs, and each of them with each hostile text in every place.
+pub fn every_place(ordinary: &[&Input], hostile: &[(&str, Vec<u8>)]) -> Vec<Input> {
+    let mut all = Vec::new();
+    for input in ordinary {
+        all.push(Input { name: input.name.clone(), texts: input.texts.clone() });
+        for place in 0..input.texts.len() {
+            for (name, text) in hostile {
+                let mut texts = input.texts.clone();
+                texts[place] = text.clone();
+                let name = format!("{}, {} as text {}", input.name, name, place + 1);
+                all.push(Input { name: name, texts: texts });
+            }
+        }
+    }
+    all
 }

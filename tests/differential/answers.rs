@@ -2,70 +2,87 @@
 
 use crate::reference::{self, Answer, BadLine, Merge, Sum};
 
+/// What a call returns where the array is too short.
+const NO_ROOM: u64 = 255;
+
+/// How many values each call tells.
+pub const CHECK: usize = 5;
+pub const BAD_LINE: usize = 2;
+pub const SUM: usize = 2;
+pub const MERGE: usize = 6;
+
 pub struct Said {
-    /// What the call returns: how many numbers or bytes of a line it has written.
-    pub count: usize,
+    /// What the call returns: the answer's number, the text's number or the length of a line.
+    pub answered: u64,
     /// What stands at the start of the lent array.
-    pub numbers: Vec<u64>,
+    pub values: Vec<u64>,
     /// What stands at the start of the lent buffer.
     pub text: Vec<u8>,
 }
 
 impl Said {
-    pub fn nothing() -> Said {
-        Said { count: 0, numbers: Vec::new(), text: Vec::new() }
+    /// The array is too short.
+    pub fn no_room() -> Said {
+        Said::values(NO_ROOM, 0, Vec::new())
     }
 
-    fn numbers(numbers: Vec<u64>) -> Said {
-        Said::numbers_and_text(numbers, b"")
+    /// The buffer is too short for a line.
+    pub fn no_line() -> Said {
+        Said::values(0, 0, Vec::new())
     }
 
-    fn numbers_and_text(numbers: Vec<u64>, text: &[u8]) -> Said {
-        Said { count: numbers.len(), numbers: numbers, text: text.to_vec() }
+    /// An answer with its values, and zeros past them.
+    fn values(answered: u64, width: usize, mut values: Vec<u64>) -> Said {
+        values.resize(width, 0);
+        Said { answered: answered, values: values, text: Vec::new() }
     }
 
     pub fn check(answer: &Answer) -> Said {
-        Said::numbers(match *answer {
+        let (number, values) = match *answer {
             Answer::Safe { roles, assigns, revokes, goals, pinned } => {
-                vec![0, roles, assigns, revokes, goals, pinned]
+                (0, vec![roles, assigns, revokes, goals, pinned])
             }
-            Answer::Attacked { steps, user, goal, .. } => vec![1, steps, user + 1, goal],
-            Answer::Unproved { part, number } => vec![2, part + 1, number],
-            Answer::Broken { step } => vec![3, step],
-            Answer::Short { steps } => vec![4, steps],
-            Answer::Refused { number, line } => vec![number, line],
-        })
+            Answer::Attacked { steps, user, goal, .. } => (1, vec![steps, user + 1, goal]),
+            Answer::Unproved { part, number } => (2, vec![part + 1, number]),
+            Answer::Broken { step } => (3, vec![step]),
+            Answer::Short { steps } => (4, vec![steps]),
+            Answer::Refused { number, line } => (number, vec![line]),
+        };
+        Said::values(number, CHECK, values)
     }
 
     pub fn line(answer: &Answer) -> Said {
         let mut line = reference::line(answer);
         line.push(b'\n');
-        Said { count: line.len(), numbers: Vec::new(), text: line }
+        Said { answered: line.len() as u64, values: Vec::new(), text: line }
     }
 
     pub fn bad_line(bad: &BadLine) -> Said {
-        Said::numbers(vec![bad.in_evidence as u64, bad.offset as u64, bad.length as u64])
+        let text = if bad.in_evidence { 2 } else { 1 };
+        Said::values(text, BAD_LINE, vec![bad.offset as u64, bad.length as u64])
     }
 
     pub fn sum(answer: &Sum) -> Said {
         match *answer {
             Sum::Done { pinned, length, ref text } => {
-                Said::numbers_and_text(vec![0, pinned, length], text)
+                Said { text: text.clone(), ..Said::values(0, SUM, vec![pinned, length]) }
             }
-            Sum::Refused { number, line, which } => Said::numbers(vec![number, which, line]),
+            Sum::Refused { number, line, which } => Said::values(number, SUM, vec![which, line]),
         }
     }
 
     pub fn merge(answer: &Merge) -> Said {
         match *answer {
             Merge::Done { roles, assigns, revokes, goals, pinned, length, ref text } => {
-                let numbers = vec![0, roles, assigns, revokes, goals, pinned, length];
-                Said::numbers_and_text(numbers, text)
+                let values = vec![roles, assigns, revokes, goals, pinned, length];
+                Said { text: text.clone(), ..Said::values(0, MERGE, values) }
             }
             Merge::Unproved { part, number, which } => {
-                Said::numbers(vec![2, which, part + 1, number])
+                Said::values(2, MERGE, vec![which, part + 1, number])
             }
-            Merge::Refused { number, line, which } => Said::numbers(vec![number, which, line]),
+            Merge::Refused { number, line, which } => {
+                Said::values(number, MERGE, vec![which, line])
+            }
         }
     }
 }

@@ -1,7 +1,7 @@
 //! One case given to the library and to the reference: answers, lines, bad lines, every byte of the
 //! lent buffers and texts compared.
 
-use crate::answers::Said;
+use crate::answers::{self, Said};
 use crate::cases::Case;
 use crate::chance::Chance;
 use crate::lent::{shown_array, shown_buffer, Lent, LentText};
@@ -44,7 +44,11 @@ const MERGE_ROOMS: Rooms = [
     "merge buffer empty",
 ];
 
-/// A call that tells numbers: the least array that it tells them in, and the rows for shorter ones.
+/// The rows for a buffer with room for a text that is longer than a text may be.
+const SUM_ABOVE: &str = "sum buffer with room for a text above 32,768 bytes";
+const MERGE_ABOVE: &str = "merge buffer with room for a text above 32,768 bytes";
+
+/// A call that tells values: the least array that it tells them in, and the rows for shorter ones.
 struct Told {
     call: &'static str,
     least: usize,
@@ -54,31 +58,40 @@ struct Told {
 
 const CHECK: Told = Told {
     call: "arbac_check",
-    least: 6,
+    least: answers::CHECK,
     one_short: "check array one number short",
     shorter: "check array shorter",
 };
 const BAD_LINE: Told = Told {
     call: "arbac_bad_line",
-    least: 3,
+    least: answers::BAD_LINE,
     one_short: "bad line array one number short",
     shorter: "bad line array shorter",
 };
+const BAD_TYPING_LINE: Told = Told {
+    call: "arbac_bad_typing_line",
+    least: answers::BAD_LINE,
+    one_short: "bad typing line array one number short",
+    shorter: "bad typing line array shorter",
+};
 const SUM: Told = Told {
     call: "arbac_sum",
-    least: 3,
+    least: answers::SUM,
     one_short: "sum array one number short",
     shorter: "sum array shorter",
 };
 const MERGE: Told = Told {
     call: "arbac_merge",
-    least: 7,
+    least: answers::MERGE,
     one_short: "merge array one number short",
     shorter: "merge array shorter",
 };
 
 /// The library's function on the texts of the case: it gets the lent buffer and the lent array.
-type Call<'a> = &'a dyn Fn(&mut [u8], &mut [u64]) -> usize;
+type Call<'a> = &'a dyn Fn(&mut [u8], &mut [u64]) -> u64;
+
+/// A buffer with room for every sum, also for one that is longer than a text may be.
+const AMPLE: usize = 1 << 20;
 
 /// Gives one case to both sides. What chance decides here is what is lent.
 pub fn compare(chance: &mut Chance, tally: &mut Tally, case: &Case) -> Vec<Difference> {
@@ -122,8 +135,8 @@ impl<'a> Comparing<'a> {
         self.differences.push(Difference { call: call, library: library, reference: reference });
     }
 
-    /// The answer; often its line, which is made from the same answer; and the bad line, seldom
-    /// where there is none.
+    /// The answer; often its line, which is made from the same answer; the bad line, seldom where
+    /// there is none; and now and then the bad line where a typing is wanted.
     fn check(&mut self, policy: &[u8], evidence: &[u8]) {
         let answer = reference::check(policy, evidence);
         self.count(rows::check(&answer));
@@ -136,16 +149,19 @@ impl<'a> Comparing<'a> {
         if matches!(answer, Answer::Refused { .. }) || self.chance.one_in(4) {
             self.bad_line(policy, evidence, &answer);
         }
+        if self.chance.one_in(4) {
+            self.bad_typing_line(policy, evidence);
+        }
     }
 
     fn line(&mut self, policy: &[u8], evidence: &[u8], answer: &Answer) {
         let mut said = Said::line(answer);
-        let room = self.room(said.count, LINE_ROOMS);
-        if said.count > room {
-            said = Said::nothing();
+        let room = self.room(said.text.len(), LINE_ROOMS);
+        if said.text.len() > room {
+            said = Said::no_line();
         }
         self.call("arbac_check_line", 0, room, &said, &|line, _| {
-            library::check_line(policy, evidence, line)
+            library::check_line(policy, evidence, line) as u64
         });
     }
 
@@ -157,13 +173,18 @@ impl<'a> Comparing<'a> {
         });
     }
 
+    fn bad_typing_line(&mut self, policy: &[u8], typing: &[u8]) {
+        let bad = reference::bad_typing_line(policy, typing);
+        self.count(rows::bad_typing_line(typing, &bad));
+        self.told(&BAD_TYPING_LINE, 0, &Said::bad_line(&bad), &|_, place| {
+            library::bad_typing_line(policy, typing, place)
+        });
+    }
+
     fn sum(&mut self, policy: &[u8], first: &[u8], second: &[u8]) {
-        let mut answer = reference::sum(policy, first, second, TEXT_LIMIT);
-        let ample = Said::sum(&answer);
-        let room = self.room_for(&ample, SUM_ROOMS);
-        if ample.text.len() > room {
-            answer = reference::sum(policy, first, second, room);
-        }
+        let ample = Said::sum(&reference::sum(policy, first, second, AMPLE));
+        let room = self.room_for(&ample, SUM_ROOMS, SUM_ABOVE);
+        let answer = reference::sum(policy, first, second, room);
         self.count(rows::sum(&answer));
         self.told(&SUM, room, &Said::sum(&answer), &|out, values| {
             library::sum(policy, first, second, out, values)
@@ -171,25 +192,25 @@ impl<'a> Comparing<'a> {
     }
 
     fn merge(&mut self, policy_1: &[u8], typing_1: &[u8], policy_2: &[u8], typing_2: &[u8]) {
-        let mut answer = reference::merge(policy_1, typing_1, policy_2, typing_2, TEXT_LIMIT);
-        let ample = Said::merge(&answer);
-        let room = self.room_for(&ample, MERGE_ROOMS);
-        if ample.text.len() > room {
-            answer = reference::merge(policy_1, typing_1, policy_2, typing_2, room);
-        }
+        let ample = Said::merge(&reference::merge(policy_1, typing_1, policy_2, typing_2, AMPLE));
+        let room = self.room_for(&ample, MERGE_ROOMS, MERGE_ABOVE);
+        let answer = reference::merge(policy_1, typing_1, policy_2, typing_2, room);
         self.count(rows::merge(&answer));
         self.told(&MERGE, room, &Said::merge(&answer), &|out, values| {
             library::merge(policy_1, typing_1, policy_2, typing_2, out, values)
         });
     }
 
-    /// The length of the buffer to lend, where the answer in one of 32,768 bytes is known: it goes
-    /// by the text that is to be written, by the limit where that is too long, and otherwise by
-    /// nothing.
-    fn room_for(&mut self, ample: &Said, rooms: Rooms) -> usize {
-        match ample.numbers[0] {
+    /// The length of the buffer that both sides are asked with, where the answer in an ample one is
+    /// known: it goes by the text that is to be written; where that is longer than a text may be,
+    /// there is room for it; and otherwise it goes by nothing.
+    fn room_for(&mut self, ample: &Said, rooms: Rooms, above: &'static str) -> usize {
+        match ample.answered {
             0 => self.room(ample.text.len(), rooms),
-            18 => TEXT_LIMIT + self.chance.below(3),
+            18 => {
+                self.count(above);
+                TEXT_LIMIT + self.chance.between(1, 40)
+            }
             _ => self.chance.pick(&[0, 1, 50, 400]),
         }
     }
@@ -209,7 +230,7 @@ impl<'a> Comparing<'a> {
     }
 
     /// The call with an array that is long enough, and now and then once more with one that is not:
-    /// it then tells and writes nothing.
+    /// nothing is then told or written.
     fn told(&mut self, told: &Told, room: usize, wanted: &Said, call: Call) {
         let array = told.least + self.chance.pick(&[0, 0, 1, 5]);
         self.call(told.call, array, room, wanted, call);
@@ -217,7 +238,7 @@ impl<'a> Comparing<'a> {
             let one_short = self.chance.one_in(2);
             self.count(if one_short { told.one_short } else { told.shorter });
             let array = if one_short { told.least - 1 } else { self.chance.below(told.least - 1) };
-            self.call(told.call, array, room, &Said::nothing(), call);
+            self.call(told.call, array, room, &Said::no_room(), call);
         }
     }
 
@@ -225,17 +246,20 @@ impl<'a> Comparing<'a> {
     fn call(&mut self, name: &'static str, array: usize, room: usize, wanted: &Said, call: Call) {
         let mut values: Lent<u64> = Lent::new(self.chance, array);
         let mut buffer: Lent<u8> = Lent::new(self.chance, room);
-        let count = call(buffer.part(), values.part());
-        let wanted_values = values.with(&wanted.numbers);
+        let answered = call(buffer.part(), values.part());
+        let wanted_values = values.with(&wanted.values);
         let wanted_buffer = buffer.with(&wanted.text);
-        if count != wanted.count || values.all != wanted_values || buffer.all != wanted_buffer {
-            let shown = |count: usize, values: &[u64], buffer: &[u8]| {
-                format!("answers {}\n", count) + &shown_array(values) + &shown_buffer(buffer)
+        let same = answered == wanted.answered
+            && values.all == wanted_values
+            && buffer.all == wanted_buffer;
+        if !same {
+            let shown = |answered: u64, values: &[u64], buffer: &[u8]| {
+                format!("answers {}\n", answered) + &shown_array(values) + &shown_buffer(buffer)
             };
             self.differ(
                 name,
-                shown(count, &values.all, &buffer.all),
-                shown(wanted.count, &wanted_values, &wanted_buffer),
+                shown(answered, &values.all, &buffer.all),
+                shown(wanted.answered, &wanted_values, &wanted_buffer),
             );
         }
         for text in self.texts.iter().filter(|text| !text.is_kept()) {

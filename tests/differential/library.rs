@@ -9,7 +9,7 @@ extern "C" {
         evidence_length: usize,
         values: *mut u64,
         values_length: usize,
-    ) -> usize;
+    ) -> u64;
 
     fn arbac_check_line(
         policy: *const u8,
@@ -27,7 +27,16 @@ extern "C" {
         evidence_length: usize,
         place: *mut u64,
         place_length: usize,
-    ) -> usize;
+    ) -> u64;
+
+    fn arbac_bad_typing_line(
+        policy: *const u8,
+        policy_length: usize,
+        typing: *const u8,
+        typing_length: usize,
+        place: *mut u64,
+        place_length: usize,
+    ) -> u64;
 
     fn arbac_sum(
         policy: *const u8,
@@ -40,7 +49,7 @@ extern "C" {
         out_length: usize,
         values: *mut u64,
         values_length: usize,
-    ) -> usize;
+    ) -> u64;
 
     fn arbac_merge(
         policy_1: *const u8,
@@ -55,10 +64,10 @@ extern "C" {
         out_length: usize,
         values: *mut u64,
         values_length: usize,
-    ) -> usize;
+    ) -> u64;
 }
 
-pub fn check(policy: &[u8], evidence: &[u8], values: &mut [u64]) -> usize {
+pub fn check(policy: &[u8], evidence: &[u8], values: &mut [u64]) -> u64 {
     unsafe {
         arbac_check(
             policy.as_ptr(),
@@ -84,7 +93,7 @@ pub fn check_line(policy: &[u8], evidence: &[u8], line: &mut [u8]) -> usize {
     }
 }
 
-pub fn bad_line(policy: &[u8], evidence: &[u8], place: &mut [u64]) -> usize {
+pub fn bad_line(policy: &[u8], evidence: &[u8], place: &mut [u64]) -> u64 {
     unsafe {
         arbac_bad_line(
             policy.as_ptr(),
@@ -97,13 +106,20 @@ pub fn bad_line(policy: &[u8], evidence: &[u8], place: &mut [u64]) -> usize {
     }
 }
 
-pub fn sum(
-    policy: &[u8],
-    first: &[u8],
-    second: &[u8],
-    out: &mut [u8],
-    values: &mut [u64],
-) -> usize {
+pub fn bad_typing_line(policy: &[u8], typing: &[u8], place: &mut [u64]) -> u64 {
+    unsafe {
+        arbac_bad_typing_line(
+            policy.as_ptr(),
+            policy.len(),
+            typing.as_ptr(),
+            typing.len(),
+            place.as_mut_ptr(),
+            place.len(),
+        )
+    }
+}
+
+pub fn sum(policy: &[u8], first: &[u8], second: &[u8], out: &mut [u8], values: &mut [u64]) -> u64 {
     unsafe {
         arbac_sum(
             policy.as_ptr(),
@@ -127,7 +143,7 @@ pub fn merge(
     typing_2: &[u8],
     out: &mut [u8],
     values: &mut [u64],
-) -> usize {
+) -> u64 {
     unsafe {
         arbac_merge(
             policy_1.as_ptr(),

@@ -35,6 +35,17 @@ pub fn bad_line(answer: &Answer, bad: &BadLine) -> &'static str {
     }
 }
 
+pub fn bad_typing_line(typing: &[u8], bad: &BadLine) -> &'static str {
+    match bad {
+        BadLine { in_evidence: true, .. } if typing.starts_with(b"trace\t1\n") => {
+            "a trace where a typing is wanted"
+        }
+        BadLine { in_evidence: true, .. } => "bad line where a typing is wanted",
+        BadLine { offset: 0, length: 0, .. } => "no bad line where a typing is wanted",
+        _ => "bad line in the policy where a typing is wanted",
+    }
+}
+
 pub fn sum(answer: &Sum) -> &'static str {
     match answer {
         Sum::Done { .. } => "sum 0",

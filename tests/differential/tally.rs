@@ -51,6 +51,10 @@ const SECTIONS: [Section; 7] = [
             "no bad line: end is missing",
             "no bad line: a text is too long",
             "no bad line: a verdict",
+            "bad line in the policy where a typing is wanted",
+            "bad line where a typing is wanted",
+            "a trace where a typing is wanted",
+            "no bad line where a typing is wanted",
         ],
     },
     Section {
@@ -130,6 +134,8 @@ const SECTIONS: [Section; 7] = [
             "check array shorter",
             "bad line array one number short",
             "bad line array shorter",
+            "bad typing line array one number short",
+            "bad typing line array shorter",
             "sum array one number short",
             "sum array shorter",
             "merge array one number short",
@@ -190,6 +196,8 @@ const SECTIONS: [Section; 7] = [
             "sum of 32,769 bytes",
             "merged sum of 32,768 bytes",
             "merged sum of 32,769 bytes",
+            "sum buffer with room for a text above 32,768 bytes",
+            "merge buffer with room for a text above 32,768 bytes",
         ],
     },
 ];

@@ -830,11 +830,20 @@ pub fn part_word(part: u64) -> &'static str {
 
 /// The line that `check` refuses, as a part of one of the two texts.
 pub fn bad_line(policy: &[u8], evidence: &[u8]) -> BadLine {
+    refused_line(policy, |policy| read_evidence(policy, evidence).err())
+}
+
+/// The line that is refused where the second text has to be a typing.
+pub fn bad_typing_line(policy: &[u8], typing: &[u8]) -> BadLine {
+    refused_line(policy, |policy| read_typing(policy, typing).err())
+}
+
+fn refused_line(policy: &[u8], refusal: impl Fn(&Policy) -> Option<Stop>) -> BadLine {
     let (in_evidence, part) = match read_policy(policy) {
         Err(stop) => (false, stop.part),
-        Ok(policy) => match read_evidence(&policy, evidence) {
-            Err(stop) => (true, stop.part),
-            Ok(_) => (false, None),
+        Ok(policy) => match refusal(&policy) {
+            Some(stop) => (true, stop.part),
+            None => (false, None),
         },
     };
     match part {

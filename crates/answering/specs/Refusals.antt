@@ -33,6 +33,27 @@ use Rattle.answering.specs.CheckRules.{Refused, of-policy, of-typing, of
 use Rattle.answering.specs.Kinds.{typing-kind}
 use Rattle.answering.specs.Outcomes.{Outcome, no-policy, no-typing, typed, traced, kind-answer, policy-refused, typing-refused, outcome}
 
+-- ---- the numbers of refusals
+
+-- A policy's refusal has a number from 10 to 16, and so has a piece of evidence's.
+pub policy-number : {text : List ℕ} {k n : ℕ} → PolicyRefusal text k n → (10 ≤ k) × (k ≤ 16)
+policy-number (PolicyRefusal.too-long above) = (lit≤ tt, lit≤ tt)
+policy-number (PolicyRefusal.malformed at is) = (lit≤ tt, lit≤ tt)
+policy-number (PolicyRefusal.above-limit at is) = (lit≤ tt, lit≤ tt)
+policy-number (PolicyRefusal.undeclared at is) = (lit≤ tt, lit≤ tt)
+policy-number (PolicyRefusal.no-end fits above tail) = (lit≤ tt, lit≤ tt)
+policy-number (PolicyRefusal.after-end at is) = (lit≤ tt, lit≤ tt)
+
+pub evidence-number : {S : Type 0} {judge : S → List ℕ → Judged S} {formed known last : S → List ℕ → Bool} {start : S} {text : List ℕ} {k n : ℕ} → EvidenceRefusal judge formed known last start text k n
+    → (10 ≤ k) × (k ≤ 16)
+evidence-number (EvidenceRefusal.too-long above) = (lit≤ tt, lit≤ tt)
+evidence-number (EvidenceRefusal.malformed at is) = (lit≤ tt, lit≤ tt)
+evidence-number (EvidenceRefusal.misnamed at is) = (lit≤ tt, lit≤ tt)
+evidence-number (EvidenceRefusal.no-end fits above tail) = (lit≤ tt, lit≤ tt)
+evidence-number (EvidenceRefusal.after-end at is) = (lit≤ tt, lit≤ tt)
+
+-- ---- when the answer is a refusal
+
 -- two refusals that are the same answer have the same number and line
 same-refusal : {k l n m : ℕ} (P : ℕ → ℕ → Type 0) → Answer.Refused k n ≡ Answer.Refused l m → P k n → P l m
 same-refusal {k} {l} {n} {m} P is holds =
@@ -76,25 +97,10 @@ module _ (policy evidence : List ℕ) where
   pub refused-number : {k n : ℕ} → answerOf policy evidence ≡ Answer.Refused k n → (10 ≤ k) × (k ≤ 16)
   refused-number {k} {n} is = go (refused-exact k n .0 is)
     where
-      of-evidence : {S : Type 0} {judge : S → List ℕ → Judged S} {formed known last : S → List ℕ → Bool} {start : S} {k n : ℕ} → EvidenceRefusal judge formed known last start evidence k n → (10 ≤ k) × (k ≤ 16)
-      of-evidence (EvidenceRefusal.too-long above) = (lit≤ tt, lit≤ tt)
-      of-evidence (EvidenceRefusal.malformed at is) = (lit≤ tt, lit≤ tt)
-      of-evidence (EvidenceRefusal.misnamed at is) = (lit≤ tt, lit≤ tt)
-      of-evidence (EvidenceRefusal.no-end fits above tail) = (lit≤ tt, lit≤ tt)
-      of-evidence (EvidenceRefusal.after-end at is) = (lit≤ tt, lit≤ tt)
-
-      in-policy : {k n : ℕ} → PolicyRefusal policy k n → (10 ≤ k) × (k ≤ 16)
-      in-policy (PolicyRefusal.too-long above) = (lit≤ tt, lit≤ tt)
-      in-policy (PolicyRefusal.malformed at is) = (lit≤ tt, lit≤ tt)
-      in-policy (PolicyRefusal.above-limit at is) = (lit≤ tt, lit≤ tt)
-      in-policy (PolicyRefusal.undeclared at is) = (lit≤ tt, lit≤ tt)
-      in-policy (PolicyRefusal.no-end fits above tail) = (lit≤ tt, lit≤ tt)
-      in-policy (PolicyRefusal.after-end at is) = (lit≤ tt, lit≤ tt)
-
       go : {k n : ℕ} → Refused policy evidence k n → (10 ≤ k) × (k ≤ 16)
-      go (of-policy refusal) = in-policy refusal
-      go (of-typing reads kind refusal) = of-evidence refusal
-      go (of-trace reads kind refusal) = of-evidence refusal
+      go (of-policy refusal) = policy-number refusal
+      go (of-typing reads kind refusal) = evidence-number refusal
+      go (of-trace reads kind refusal) = evidence-number refusal
 
 -- ---- where the bad line is looked for
 

@@ -1,42 +1,128 @@
--- What a C caller may rely on: 0 means that there was no room, the numbers of the bad line are its place, and no line is longer than 128 bytes.
+-- What a C caller may rely on: 255 means that there was no room and 0 a success, every value is told or zero, the place of the bad line is its place, and no line is longer than 128 bytes.
 use Prim.Native.Nat.{ℕ, _-_, _≤_, _<_}
-use borrow.Author.Tests.{leb-false, lt-leb}
+use borrow.Author.Tests.{leb-true, leb-false, le-leb}
 use mathlib.Core.Bool.{Bool, true, false, cond}
-use mathlib.Core.List.{List, _∷_}
+use mathlib.Core.List.{List}
 use mathlib.Core.Logic.{_↔_}
-use mathlib.Core.Path.{_≡_, refl, ap}
+use mathlib.Core.Path.{_≡_, refl, sym, ap, _∙_}
 use lib.Dec.{leb, lit≤}
-use lib.ListN.{length, take, drop, length-append}
+use lib.ListN.{length, take, drop, replicate, length-append}
+use lib.Seq.{drop-append-seam}
 use native.Mathlib.Omega.{arith}
 use Rattle.tables.specs.declared.Name.{Name}
-use Rattle.places.specs.Place.{badPlace, badLine}
+use Rattle.reading.specs.Policy.{padded}
+use Rattle.places.specs.declared.BadPlace.{BadPlace}
+use Rattle.places.specs.Place.{bytesAt, badPlace, badLine, badTypingPlace, badTypingLine}
 use Rattle.judging.specs.declared.Part.{Part}
+use Rattle.writing.specs.Written.{put}
+use Rattle.writing.specs.Buffers.{put-before}
 use Rattle.writing.specs.Spelling.{decimal-length, spelled-length}
+use Rattle.summing.specs.declared.SumAnswer.{SumAnswer}
+use Rattle.summing.specs.Outcome.{answerIn}
+use Rattle.summing.specs.Sum as sum
+use Rattle.merging.specs.declared.MergeAnswer.{MergeAnswer}
+use Rattle.merging.specs.Merge as merge
 use Rattle.answering.specs.declared.Answer.{Answer}
-use Rattle.answering.specs.Answers.{nameAt}
+use Rattle.answering.specs.Answers.{numberOf, answerOf, nameAt}
 use Rattle.printing.specs.Line.{field, partText, lineOf, checkLine}
 use Rattle.printing.specs.Program.{noFile, programLine}
-use Rattle.arbac.specs.Face.{roomFor, toldCount}
+use Rattle.telling.specs.Numbers.{placeText}
+use Rattle.arbac.specs.Face.{noRoom, roomFor, toldNumber, toldIn}
+use Rattle.arbac.specs.FaceNumbers.{IsSafe, safe, IsSummed, summed, IsMerged, merged, check-numbered, sum-numbered, merge-numbered}
 
--- 0 is answered exactly when the array has no room: every answer has a number at least.
-pub none-told : (longest number : ℕ) (values array : List ℕ) → toldCount longest (number ∷ values) array ≡ 0 ↔ length array < longest
-unfolding toldCount roomFor
-none-told longest number values array = (go (leb longest (length array)) refl, λ short. ap (λ (b : Bool). cond b (length (number ∷ values)) 0) (lt-leb longest (length array) short))
+-- ---- the number that is answered
+
+-- What is answered is 255 exactly where the array has no room, and 0 exactly where it has room and the answer is a success.
+pub record Answered (width : ℕ) (array : List ℕ) (Success : Type 0) (answered : ℕ) : Type 0 where
+  pub none-told : answered ≡ noRoom ↔ length array < width
+  pub zero-told : answered ≡ 0 ↔ (width ≤ length array) × Success
+
+-- a number that is told in an array, of which it is known when it is 0
+told-so : {number : ℕ} {Success : Type 0} (width : ℕ) (array : List ℕ) → number ≤ 19 → number ≡ 0 ↔ Success → Answered width array Success (toldNumber width number array)
+unfolding toldNumber roomFor
+told-so {number} {Success} width array listed zero = go (leb width (length array)) refl
   where
-    go : (b : Bool) → leb longest (length array) ≡ b → cond b (length (number ∷ values)) 0 ≡ 0 → length array < longest
-    go true room none = absurd (omega (arith, none))
-    go false short none = leb-false longest (length array) short
+    go : (b : Bool) → leb width (length array) ≡ b → Answered width array Success (cond b number noRoom)
+    go true e =
+        let room = leb-true width (length array) e in
+        record {
+          none-told = (λ none. absurd (omega (arith, none, listed)), λ short. absurd (omega (arith, room, short)));
+          zero-told = (λ is. (room, zero .0 is), λ told. zero .1 (told .1));
+        }
+    go false e =
+        let short = leb-false width (length array) e in
+        record { none-told = (λ none. short, λ less. refl); zero-told = (λ is. absurd (omega (arith, is)), λ told. absurd (omega (arith, short, told .0))) }
 
--- The bytes that the place tells, so many from where the line begins in the text, are the bad line.
-pub bad-bytes : (policy evidence : List ℕ) → let place = badPlace policy evidence in take (place .to - place .from) (drop (place .from) (cond (place .evidence) evidence policy)) ≡ badLine policy evidence
-unfolding badLine
-bad-bytes policy evidence = go (badPlace policy evidence .evidence)
+-- the number of a success
+safe-zero : {answer : Answer} → IsSafe answer → numberOf answer ≡ 0
+safe-zero (safe roles assigns revokes goals pinned) = refl
+
+summed-zero : {answer : SumAnswer} → IsSummed answer → sum.numberOf answer ≡ 0
+summed-zero (summed pinned written) = refl
+
+merged-zero : {answer : MergeAnswer} → IsMerged answer → merge.numberOf answer ≡ 0
+merged-zero (merged roles assigns revokes goals pinned written) = refl
+
+-- `arbac_check` answers 0 only where the answer is SAFE,
+pub check-told : (policy evidence array : List ℕ) → let answer = answerOf policy evidence in Answered 5 array (IsSafe answer) (toldNumber 5 (numberOf answer) array)
+check-told policy evidence array =
+    let n = check-numbered policy evidence in
+    told-so 5 array (n .listed) (n .zero-only, safe-zero)
+
+-- `arbac_sum` and `arbac_merge` where the sum is written,
+pub sum-told : (policy first second : List ℕ) (room : ℕ) (array : List ℕ) → let answer = answerIn (sum.sumOutcome policy first second room) in Answered 2 array (IsSummed answer) (toldNumber 2 (sum.numberOf answer) array)
+sum-told policy first second room array =
+    let n = sum-numbered policy first second room in
+    told-so 2 array (n .listed) (n .zero-only, summed-zero)
+
+pub merge-told : (policy₁ typing₁ policy₂ typing₂ : List ℕ) (room : ℕ) (array : List ℕ) → let answer = answerIn (merge.mergeOutcome policy₁ typing₁ policy₂ typing₂ room) in Answered 6 array (IsMerged answer) (toldNumber 6 (merge.numberOf answer) array)
+merge-told policy₁ typing₁ policy₂ typing₂ room array =
+    let n = merge-numbered policy₁ typing₁ policy₂ typing₂ room in
+    told-so 6 array (n .listed) (n .zero-only, merged-zero)
+
+-- and the functions that tell a place never.
+pub bad-place-told : (place : BadPlace) (array : List ℕ) → Answered 2 array ⊥ (toldNumber 2 (placeText place) array)
+unfolding placeText
+bad-place-told place array = go (place .evidence)
+  where
+    go : (b : Bool) → Answered 2 array ⊥ (toldNumber 2 (cond b 2 1) array)
+    go true = told-so 2 array (lit≤ tt) (λ is. omega (arith, is), λ never. absurd never)
+    go false = told-so 2 array (lit≤ tt) (λ is. omega (arith, is), λ never. absurd never)
+
+-- ---- the values that are told
+
+-- An array with room begins with all the values, whatever stood there before.
+pub told-values : {width : ℕ} (values array : List ℕ) → length values ≡ width → width ≤ length array → take width (toldIn width values array) ≡ values
+unfolding toldIn roomFor
+told-values {width} values array all room =
+    ap (λ (b : Bool). take width (cond b (put values array) array)) (le-leb width (length array) room) ∙ ap (λ (k : ℕ). take k (put values array)) (sym all) ∙ put-before values array
+
+-- Past the values that document 01 names there are only zeros.
+pub zeros-past : (width : ℕ) (values : List ℕ) → drop (length values) (padded width 0 values) ≡ replicate (width - length values) 0
+unfolding padded
+zeros-past width values = drop-append-seam values (replicate (width - length values) 0)
+
+-- The bytes that a place tells, so many from where it begins in its text, are those at the place.
+pub place-bytes : (policy evidence : List ℕ) (place : BadPlace) → take (place .to - place .from) (drop (place .from) (cond (place .evidence) evidence policy)) ≡ bytesAt policy evidence place
+place-bytes policy evidence place = go (place .evidence)
   where
     go : (b : Bool)
-        → take (badPlace policy evidence .to - badPlace policy evidence .from) (drop (badPlace policy evidence .from) (cond b evidence policy))
-        ≡ cond b (take (badPlace policy evidence .to - badPlace policy evidence .from) (drop (badPlace policy evidence .from) evidence)) (take (badPlace policy evidence .to - badPlace policy evidence .from) (drop (badPlace policy evidence .from) policy))
+        → take (place .to - place .from) (drop (place .from) (cond b evidence policy))
+        ≡ cond b (take (place .to - place .from) (drop (place .from) evidence)) (take (place .to - place .from) (drop (place .from) policy))
     go true = refl
     go false = refl
+
+-- So the bytes that `arbac_bad_line` tells are the bad line,
+pub bad-bytes : (policy evidence : List ℕ) → let place = badPlace policy evidence in take (place .to - place .from) (drop (place .from) (cond (place .evidence) evidence policy)) ≡ badLine policy evidence
+unfolding badLine
+bad-bytes policy evidence = place-bytes policy evidence (badPlace policy evidence)
+
+-- and those that `arbac_bad_typing_line` tells are the bad line where a typing is wanted.
+pub bad-typing-bytes : (policy typing : List ℕ) → let place = badTypingPlace policy typing in take (place .to - place .from) (drop (place .from) (cond (place .evidence) typing policy)) ≡ badTypingLine policy typing
+unfolding badTypingLine
+bad-typing-bytes policy typing = place-bytes policy typing (badTypingPlace policy typing)
+
+-- ---- the line
 
 -- a part's word is short
 part-length : (part : Part) → length (partText part) ≤ 8

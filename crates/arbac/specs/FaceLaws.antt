@@ -1,45 +1,24 @@
--- How the place of the bad line and the user of an answer come about, and how numbers are told in a lent array, with room and without.
-use Prim.Native.Nat.{ℕ, _-_, _≤_, _<_}
+-- The user of an answer as it is told, and how a number and values are told in a lent array, with room and without.
+use Prim.Native.Nat.{ℕ, _≤_, _<_}
 use borrow.Author.Tests.{lt-leb, le-leb}
-use mathlib.Core.Bool.{Bool, true, false, cond}
-use mathlib.Core.List.{List, [], _∷_}
+use mathlib.Core.Bool.{Bool, cond}
+use mathlib.Core.List.{List}
 use mathlib.Core.Path.{_≡_, refl, sym, ap, _∙_}
 use lib.ListN.{length}
-use mir.Val.{boolByte}
 use native.Mathlib.Omega.{arith}
 use Rattle.model.specs.Policy.{State, Run, Present}
 use Rattle.model.specs.Policy as model
 use Rattle.model.specs.States.{present-back}
-use Rattle.places.specs.declared.BadPlace.{BadPlace}
-use Rattle.places.specs.Place.{refusalOf, badPlace}
-use Rattle.places.specs.PlaceLaws.{place-ordered}
 use Rattle.reading.specs.Kept.{read-bounded}
 use Rattle.following.specs.Exact.{follows-run}
 use Rattle.writing.specs.Written.{put}
-use Rattle.writing.specs.Buffers.{Wrote, wrote-as}
 use Rattle.summing.specs.Outcome.{Outcome, answerIn, bufferAfter, Meets}
 use Rattle.answering.specs.declared.Answer.{Answer}
 use Rattle.answering.specs.Answers.{answerOf}
 use Rattle.answering.specs.Exact.{attacked-exact}
-use Rattle.telling.specs.Numbers.{UserListed}
-use Rattle.telling.specs.NumberLaws.{other-number}
-use Rattle.arbac.specs.Face.{badNumbers, roomFor, toldCount, toldIn, bufferTold}
-
--- ---- the bad line
-
-module _ (policy evidence : List ℕ) {place : BadPlace} (is : place ≡ badPlace policy evidence) where
-  -- it does not end before it begins
-  pub bad-ordered : place .from ≤ place .to
-  bad-ordered = place-ordered policy evidence (refusalOf policy evidence) is
-
-  -- its numbers, as they are computed
-  pub bad-told : (boolByte (place .evidence) ∷ place .from ∷ (place .to - place .from) ∷ []) ≡ badNumbers policy evidence
-  unfolding badNumbers
-  bad-told = other-number [] _ (go (place .evidence)) ∙ ap (λ (p : BadPlace). cond (p .evidence) 1 0 ∷ p .from ∷ (p .to - p .from) ∷ []) is
-    where
-      go : (b : Bool) → boolByte b ≡ cond b 1 0
-      go true = refl
-      go false = refl
+use Rattle.telling.specs.Numbers.{Told, UserListed}
+use Rattle.telling.specs.NumberLaws.{known-told}
+use Rattle.arbac.specs.Face.{noRoom, roomFor, toldNumber, toldIn, bufferTold}
 
 -- ---- the user of ATTACKED
 
@@ -62,32 +41,37 @@ user-listed policy evidence is = record { below = λ steps user goal attacked. g
 
 -- ---- told in a lent array
 
--- an array without room for the longest answer is left as it is
-pub no-room : (longest : ℕ) (numbers array : List ℕ) → length array < longest → (0 ≡ toldCount longest numbers array) × (array ≡ toldIn longest numbers array)
-unfolding toldCount toldIn roomFor
-no-room longest numbers array short =
-    let no = lt-leb longest (length array) short in
-    (sym (ap (λ (b : Bool). cond b (length numbers) 0) no), sym (ap (λ (b : Bool). cond b (put numbers array) array) no))
+-- what is told of an answer is told of its equal
+pub told-as : {A : Type 0} (numberOf : A → ℕ) (valuesOf : A → List ℕ) {answer other : A} {array after : List ℕ} {answered : ℕ} → answer ≡ other → Told (numberOf answer) (valuesOf answer) array answered after
+    → Told (numberOf other) (valuesOf other) array answered after
+told-as numberOf valuesOf same t = known-told numberOf valuesOf (sym same) refl refl t
 
--- in an array with room the numbers are put
-pub with-room : (longest : ℕ) {numbers array after : List ℕ} {count : ℕ} → longest ≤ length array → Wrote numbers array count after → (count ≡ toldCount longest numbers array) × (after ≡ toldIn longest numbers array)
-unfolding toldCount toldIn roomFor
-with-room longest {numbers} {array} room w =
-    let yes = le-leb longest (length array) room in
-    (w .place ∙ sym (ap (λ (b : Bool). cond b (length numbers) 0) yes), w .held ∙ sym (ap (λ (b : Bool). cond b (put numbers array) array) yes))
+-- an array without room is left as it is, and 255 is answered
+pub no-room : (width number : ℕ) (values array : List ℕ) → length array < width → (noRoom ≡ toldNumber width number array) × (array ≡ toldIn width values array)
+unfolding toldNumber toldIn roomFor
+no-room width number values array short =
+    let no = lt-leb width (length array) short in
+    (sym (ap (λ (b : Bool). cond b number noRoom) no), sym (ap (λ (b : Bool). cond b (put values array) array) no))
+
+-- in an array with room the values are put, and the number is answered
+pub with-room : (width : ℕ) {number answered : ℕ} {values array after : List ℕ} → width ≤ length array → Told number values array answered after → (answered ≡ toldNumber width number array) × (after ≡ toldIn width values array)
+unfolding toldNumber toldIn roomFor
+with-room width {number} {values = values} {array = array} room t =
+    let yes = le-leb width (length array) room in
+    (t .says ∙ sym (ap (λ (b : Bool). cond b number noRoom) yes), t .held ∙ sym (ap (λ (b : Bool). cond b (put values array) array) yes))
 
 -- the same where a text is written too
-module _ {A : Type 0} (numbersOf : A → List ℕ) (longest : ℕ) (outcome : Outcome A) (buffer array : List ℕ) where
-  pub no-room-outcome : length array < longest
-      → (0 ≡ toldCount longest (numbersOf (answerIn outcome)) array) × ((array ≡ toldIn longest (numbersOf (answerIn outcome)) array) × (buffer ≡ bufferTold longest array outcome buffer))
+module _ {A : Type 0} (numberOf : A → ℕ) (valuesOf : A → List ℕ) (width : ℕ) (outcome : Outcome A) (buffer array : List ℕ) where
+  pub no-room-outcome : length array < width
+      → (noRoom ≡ toldNumber width (numberOf (answerIn outcome)) array) × ((array ≡ toldIn width (valuesOf (answerIn outcome)) array) × (buffer ≡ bufferTold width array outcome buffer))
   unfolding bufferTold roomFor
   no-room-outcome short =
-      let none = no-room longest (numbersOf (answerIn outcome)) array short in
-      (none .0, (none .1, sym (ap (λ (b : Bool). cond b (bufferAfter outcome buffer) buffer) (lt-leb longest (length array) short))))
+      let none = no-room width (numberOf (answerIn outcome)) (valuesOf (answerIn outcome)) array short in
+      (none .0, (none .1, sym (ap (λ (b : Bool). cond b (bufferAfter outcome buffer) buffer) (lt-leb width (length array) short))))
 
-  pub with-room-outcome : {answer : A} {count : ℕ} {after filled : List ℕ} → longest ≤ length array → Meets outcome buffer answer filled → Wrote (numbersOf answer) array count after
-      → (count ≡ toldCount longest (numbersOf (answerIn outcome)) array) × ((after ≡ toldIn longest (numbersOf (answerIn outcome)) array) × (filled ≡ bufferTold longest array outcome buffer))
+  pub with-room-outcome : {answer : A} {answered : ℕ} {after filled : List ℕ} → width ≤ length array → Meets outcome buffer answer filled → Told (numberOf answer) (valuesOf answer) array answered after
+      → (answered ≡ toldNumber width (numberOf (answerIn outcome)) array) × ((after ≡ toldIn width (valuesOf (answerIn outcome)) array) × (filled ≡ bufferTold width array outcome buffer))
   unfolding bufferTold roomFor
-  with-room-outcome room met w =
-      let all = with-room longest room (wrote-as (ap numbersOf (met .answered)) w) in
-      (all .0, (all .1, met .left ∙ sym (ap (λ (b : Bool). cond b (bufferAfter outcome buffer) buffer) (le-leb longest (length array) room))))
+  with-room-outcome room met t =
+      let all = with-room width room (told-as numberOf valuesOf (met .answered) t) in
+      (all .0, (all .1, met .left ∙ sym (ap (λ (b : Bool). cond b (bufferAfter outcome buffer) buffer) (le-leb width (length array) room))))

@@ -1,3 +1,3 @@
--- An answer told in numbers.
+-- An answer told: its number, and its values in a lent array.
 pub mod Numbers
 pub mod NumberLaws

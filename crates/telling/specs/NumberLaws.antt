@@ -1,40 +1,52 @@
--- How the numbers of an answer come about, and how many they are at most.
-use Prim.Native.Nat.{ℕ, _≤_}
+-- How an answer comes to be told, and that every answer of a function has as many values.
+use Prim.Native.Nat.{ℕ, _+_, _≤_}
+use mathlib.Core.Bool.{Bool, true, false, cond}
 use mathlib.Core.List.{List, _∷_, _++_}
-use mathlib.Core.Path.{_≡_, sym, ap, _∙_}
+use mathlib.Core.Path.{_≡_, refl, sym, ap, _∙_}
 use lib.Dec.{lit≤}
 use lib.ListN.{length}
-use Rattle.writing.specs.Buffers.{Wrote, wrote-as}
+use mir.Val.{boolByte}
+use Rattle.reading.specs.Policy.{padded}
 use Rattle.summing.specs.declared.SumAnswer.{SumAnswer}
 use Rattle.merging.specs.declared.MergeAnswer.{MergeAnswer}
 use Rattle.answering.specs.declared.Answer.{Answer}
-use Rattle.telling.specs.Numbers.{checkNumbers, sumNumbers, mergeNumbers}
+use Rattle.telling.specs.Numbers.{checkValues, sumValues, mergeValues, Told}
 
--- the numbers that are put are those of an answer that is known
-pub known-numbers : {A : Type 0} (numbersOf : A → List ℕ) {answer known : A} {numbers before after : List ℕ} {count : ℕ} → answer ≡ known → numbers ≡ numbersOf known → Wrote numbers before count after → Wrote (numbersOf answer) before count after
-known-numbers numbersOf same are w = wrote-as (are ∙ sym (ap numbersOf same)) w
+-- what is told is of an answer that is known
+pub known-told : {A : Type 0} (numberOf : A → ℕ) (valuesOf : A → List ℕ) {answer known : A} {number answered : ℕ} {values before after : List ℕ} → answer ≡ known → number ≡ numberOf known → values ≡ valuesOf known
+    → Told number values before answered after → Told (numberOf answer) (valuesOf answer) before answered after
+known-told numberOf valuesOf same is are t = rw (ap numberOf same, ap valuesOf same, ← is, ← are) t
 
--- one of them in other words
+-- one of the values in other words
 pub other-number : (front back : List ℕ) {k j : ℕ} → k ≡ j → front ++ (k ∷ back) ≡ front ++ (j ∷ back)
 other-number front back same = ap (λ (n : ℕ). front ++ (n ∷ back)) same
 
--- The longest answers have 6, 3 and 7 numbers.
-pub check-longest : (answer : Answer) → length (checkNumbers answer) ≤ 6
-unfolding checkNumbers
-check-longest (Answer.Safe roles assigns revokes goals pinned) = lit≤ tt
-check-longest (Answer.Attacked steps user goal) = lit≤ tt
-check-longest (Answer.Unproved part number) = lit≤ tt
-check-longest (Answer.Broken step) = lit≤ tt
-check-longest (Answer.Short steps) = lit≤ tt
-check-longest (Answer.Refused number line) = lit≤ tt
+-- the number of a text, as it is computed, and that it is small
+pub text-small : (b : Bool) → boolByte b ≤ 1
+text-small true = lit≤ tt
+text-small false = lit≤ tt
 
-pub sum-longest : (answer : SumAnswer) → length (sumNumbers answer) ≤ 3
-unfolding sumNumbers
-sum-longest (SumAnswer.Summed pinned written) = lit≤ tt
-sum-longest (SumAnswer.Refused which number line) = lit≤ tt
+pub text-number : (b : Bool) → boolByte b + 1 ≡ cond b 2 1
+text-number true = refl
+text-number false = refl
 
-pub merge-longest : (answer : MergeAnswer) → length (mergeNumbers answer) ≤ 7
-unfolding mergeNumbers
-merge-longest (MergeAnswer.Merged roles assigns revokes goals pinned written) = lit≤ tt
-merge-longest (MergeAnswer.Unproved which part number) = lit≤ tt
-merge-longest (MergeAnswer.Refused which number line) = lit≤ tt
+-- Every answer has 5, 2 and 6 values.
+pub check-width : (answer : Answer) → length (checkValues answer) ≡ 5
+unfolding checkValues padded
+check-width (Answer.Safe roles assigns revokes goals pinned) = refl
+check-width (Answer.Attacked steps user goal) = refl
+check-width (Answer.Unproved part number) = refl
+check-width (Answer.Broken step) = refl
+check-width (Answer.Short steps) = refl
+check-width (Answer.Refused number line) = refl
+
+pub sum-width : (answer : SumAnswer) → length (sumValues answer) ≡ 2
+unfolding sumValues padded
+sum-width (SumAnswer.Summed pinned written) = refl
+sum-width (SumAnswer.Refused which number line) = refl
+
+pub merge-width : (answer : MergeAnswer) → length (mergeValues answer) ≡ 6
+unfolding mergeValues padded
+merge-width (MergeAnswer.Merged roles assigns revokes goals pinned written) = refl
+merge-width (MergeAnswer.Unproved which part number) = refl
+merge-width (MergeAnswer.Refused which number line) = refl

@@ -1,80 +1,84 @@
-// An answer told in numbers, in a lent array.
+// An answer or the place of the bad line told: a number, and the values in a lent array.
 ghost use Prim.Native.Nat.{_≤_};
 ghost use lib.ListN.{length};
-ghost use Rattle.writing.specs.Buffers.{Wrote};
-ghost use Rattle.telling.specs.Numbers.{checkNumbers, sumNumbers, mergeNumbers, UserListed};
+ghost use Rattle.summing.specs.Sum as sums;
+ghost use Rattle.merging.specs.Merge as merges;
+ghost use Rattle.answering.specs.Answers.{numberOf};
+ghost use Rattle.telling.specs.Numbers.{checkValues, sumValues, mergeValues, placeText, placeValues, Told, UserListed};
 use answering::Answer;
 use judging::part_number;
 use merging::MergeAnswer;
+use places::BadPlace;
 use summing::SumAnswer;
 
-// Puts numbers at the start of an array, and answers how many there are.
-pub fn write_numbers(values: &mut [u64], numbers: &[u64]) -> usize
-    requires { ⌜ length (now numbers) ≤ length (now values) ⌝ }
-    ensures { λ r. ⌜ Wrote (now (numbers .entry)) (now (values .entry)) r (now (values .exit)) ⌝ }
+// Puts values at the start of an array, and answers a number.
+pub fn tell(array: &mut [u64], values: &[u64], number: u64) -> u64
+    requires { ⌜ length (now values) ≤ length (now array) ⌝ }
+    ensures { λ r. ⌜ Told number (now (values .entry)) (now (array .entry)) r (now (array .exit)) ⌝ }
 {
     let mut at = 0;
-    while at < numbers.len() {
-        values[at] = numbers[at];
+    while at < values.len() {
+        array[at] = values[at];
         at += 1;
     }
-    at
+    number
 }
 
-// Puts the numbers of an answer of `check` at the start of an array, and answers how many there are.
-pub fn tell_check(values: &mut [u64], answer: Answer) -> usize
-    requires { ⌜ (6 ≤ length (now values)) × UserListed answer ⌝ }
-    ensures { λ r. ⌜ Wrote (checkNumbers answer) (now (values .entry)) r (now (values .exit)) ⌝ }
+// Puts the values of an answer of `check` at the start of an array, and answers its number.
+pub fn tell_check(array: &mut [u64], answer: Answer) -> u64
+    requires { ⌜ (5 ≤ length (now array)) × UserListed answer ⌝ }
+    ensures { λ r. ⌜ Told (numberOf answer) (checkValues answer) (now (array .entry)) r (now (array .exit)) ⌝ }
 {
     match answer {
-        Answer::Safe(roles, assigns, revokes, goals, pinned) => write_numbers(
-            values,
+        Answer::Safe(roles, assigns, revokes, goals, pinned) => tell(
+            array,
             &[
-                0,
                 roles as u64,
                 assigns as u64,
                 revokes as u64,
                 goals as u64,
                 pinned as u64,
             ],
+            0,
         ),
         Answer::Attacked(steps, user, goal) => {
-            write_numbers(values, &[1, steps as u64, user as u64 + 1, goal as u64])
+            tell(
+                array,
+                &[steps as u64, user as u64 + 1, goal as u64, 0, 0],
+                1,
+            )
         }
         Answer::Unproved(part, number) => {
-            write_numbers(values, &[2, part_number(part), number as u64])
+            tell(array, &[part_number(part), number as u64, 0, 0, 0], 2)
         }
-        Answer::Broken(step) => write_numbers(values, &[3, step as u64]),
-        Answer::Short(steps) => write_numbers(values, &[4, steps as u64]),
-        Answer::Refused(number, line) => write_numbers(values, &[number, line as u64]),
+        Answer::Broken(step) => tell(array, &[step as u64, 0, 0, 0, 0], 3),
+        Answer::Short(steps) => tell(array, &[steps as u64, 0, 0, 0, 0], 4),
+        Answer::Refused(number, line) => tell(array, &[line as u64, 0, 0, 0, 0], number),
     }
 }
 
-// Puts the numbers of an answer of `sum` at the start of an array, and answers how many there are.
-pub fn tell_sum(values: &mut [u64], answer: SumAnswer) -> usize
-    requires { ⌜ 3 ≤ length (now values) ⌝ }
-    ensures { λ r. ⌜ Wrote (sumNumbers answer) (now (values .entry)) r (now (values .exit)) ⌝ }
+// Puts the values of an answer of `sum` at the start of an array, and answers its number.
+pub fn tell_sum(array: &mut [u64], answer: SumAnswer) -> u64
+    requires { ⌜ 2 ≤ length (now array) ⌝ }
+    ensures { λ r. ⌜ Told (sums.numberOf answer) (sumValues answer) (now (array .entry)) r (now (array .exit)) ⌝ }
 {
     match answer {
-        SumAnswer::Summed(pinned, length) => {
-            write_numbers(values, &[0, pinned as u64, length as u64])
-        }
+        SumAnswer::Summed(pinned, length) => tell(array, &[pinned as u64, length as u64], 0),
         SumAnswer::Refused(which, number, line) => {
-            write_numbers(values, &[number, which as u64, line as u64])
+            tell(array, &[which as u64, line as u64], number)
         }
     }
 }
 
-// Puts the numbers of an answer of `merge` at the start of an array, and answers how many there are.
-pub fn tell_merge(values: &mut [u64], answer: MergeAnswer) -> usize
-    requires { ⌜ 7 ≤ length (now values) ⌝ }
-    ensures { λ r. ⌜ Wrote (mergeNumbers answer) (now (values .entry)) r (now (values .exit)) ⌝ }
+// Puts the values of an answer of `merge` at the start of an array, and answers its number.
+pub fn tell_merge(array: &mut [u64], answer: MergeAnswer) -> u64
+    requires { ⌜ 6 ≤ length (now array) ⌝ }
+    ensures { λ r. ⌜ Told (merges.numberOf answer) (mergeValues answer) (now (array .entry)) r (now (array .exit)) ⌝ }
 {
     match answer {
-        MergeAnswer::Merged(roles, assigns, revokes, goals, pinned, length) => write_numbers(
-            values,
+        MergeAnswer::Merged(roles, assigns, revokes, goals, pinned, length) => tell(
+            array,
             &[
-                0,
                 roles as u64,
                 assigns as u64,
                 revokes as u64,
@@ -82,13 +86,28 @@ pub fn tell_merge(values: &mut [u64], answer: MergeAnswer) -> usize
                 pinned as u64,
                 length as u64,
             ],
+            0,
         ),
-        MergeAnswer::Unproved(which, part, number) => write_numbers(
-            values,
-            &[2, which as u64, part_number(part), number as u64],
+        MergeAnswer::Unproved(which, part, number) => tell(
+            array,
+            &[which as u64, part_number(part), number as u64, 0, 0, 0],
+            2,
         ),
         MergeAnswer::Refused(which, number, line) => {
-            write_numbers(values, &[number, which as u64, line as u64])
+            tell(array, &[which as u64, line as u64, 0, 0, 0, 0], number)
         }
     }
+}
+
+// Puts the place of a bad line at the start of an array, and answers which text it is in.
+pub fn tell_place(array: &mut [u64], place: BadPlace) -> u64
+    requires { ⌜ (2 ≤ length (now array)) × (place .from ≤ place .to) ⌝ }
+    ensures { λ r. ⌜ Told (placeText place) (placeValues place) (now (array .entry)) r (now (array .exit)) ⌝ }
+{
+    let length = place.to - place.from;
+    tell(
+        array,
+        &[place.from as u64, length as u64],
+        place.evidence as u64 + 1,
+    )
 }

@@ -1,12 +1,13 @@
 -- `arbac_merge` leaves buffer and array alone where the array is short, and else tells what `merge` answers and leaves.
-use Rattle.telling.specs.Numbers.{mergeNumbers}
+use Rattle.merging.specs.Merge as merges
+use Rattle.telling.specs.Numbers.{mergeValues}
 use Rattle.arbac.specs.FaceLaws.{no-room-outcome, with-room-outcome}
 use borrow.Author.Needs.{needs}
 use Rattle.arbac.proofs.face.arbac_merge.Statement.{statement}
 use Rattle.arbac.proofs.face.arbac_merge.Tie as tie
 
 returns : tie.Need-returns
-returns c = no-room-outcome mergeNumbers 7 _ _ _ (c .if1 .taken)
+returns c = no-room-outcome merges.numberOf mergeValues 6 _ _ _ (c .if1 .taken)
 
 merge-requires : tie.Need-merge-requires
 merge-requires c κs = search needs
@@ -21,7 +22,7 @@ same-length-2 : tie.Need-same-length-2
 same-length-2 c = search needs
 
 returns-2 : tie.Need-returns-2
-returns-2 c = with-room-outcome mergeNumbers 7 _ _ _ (c .before .before .before .before .before .before .before .before .if1 .left) (c .before .before .before .before .before .merge .ensures) (c .before .before .tell-merge .ensures)
+returns-2 c = with-room-outcome merges.numberOf mergeValues 6 _ _ _ (c .before .before .before .before .before .before .before .before .if1 .left) (c .before .before .before .before .before .merge .ensures) (c .before .before .tell-merge .ensures)
 
 pub arbac-merge-spec : {M : Type 1} → statement M
 arbac-merge-spec =
