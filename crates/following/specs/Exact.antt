@@ -1,46 +1,21 @@
 -- Going through the steps of a trace is exact against the model: it ends in a state exactly when the steps follow to it, and breaks exactly
 -- at the first that is no step; and steps that follow are the runs of the policy.
-use Prim.Native.Nat.{ℕ, zero, suc, _<_}
+use Prim.Native.Nat.{ℕ}
 use mathlib.Core.Bool.{Bool, true, false, false≢true}
-use mathlib.Core.List.{List, [], _∷_, _++_, List·Memᴰ as Listed, List·Memᴰ·head as foremost, List·Memᴰ·tail as further}
+use mathlib.Core.List.{List, [], _∷_, _++_}
 use mathlib.Core.Logic.{_↔_}
 use mathlib.Core.Path.{_≡_, refl, sym, ap, subst, _∙_}
-use lib.ListN.{length, getD}
-use native.Mathlib.Omega.{arith}
 use Rattle.roles.specs.Sets.{emptySet}
 use Rattle.model.specs.declared.Assign.{Assign}
 use Rattle.model.specs.declared.Revoke.{Revoke}
 use Rattle.model.specs.Policy.{Policy, State, granted, revoked, Run}
 use Rattle.model.specs.Policy as model
 use Rattle.steps.specs.declared.Step.{Step}
+use Rattle.steps.specs.Places.{at-inside, at-stands, stands-at, at-listed, listed-at}
 use Rattle.steps.specs.Traces.{assignAt, revokeAt, possible, after, broken, ran, later, runOf}
 use Rattle.steps.specs.Runs.{ran-same, broken-ran, later-ran, run-on, run-off}
 use Rattle.steps.specs.Exact.{SizedRules, BrokenAt, assign-possible, revoke-possible, broken-first}
-use Rattle.following.specs.Follows.{At, here, there, Use, Follows, Breaks}
-
--- ---- places of a list
-
-module _ {A : Type 0} where
-  at-inside : {l : List A} {place : ℕ} {a : A} → At l place a → place < length l
-  at-inside here = omega arith
-  at-inside (there at) = omega (arith, at-inside at)
-
-  at-stands : (d : A) {l : List A} {place : ℕ} {a : A} → At l place a → getD l place d ≡ a
-  at-stands d here = refl
-  at-stands d (there at) = at-stands d at
-
-  stands-at : (d : A) (l : List A) (place : ℕ) → place < length l → At l place (getD l place d)
-  stands-at d [] place inside = absurd (omega arith)
-  stands-at d (a ∷ l) zero inside = here
-  stands-at d (a ∷ l) (suc place) inside = there (stands-at d l place (omega arith))
-
-  at-listed : {l : List A} {place : ℕ} {a : A} → At l place a → Listed a l
-  at-listed here = foremost refl
-  at-listed (there at) = further (at-listed at)
-
-  listed-at : {l : List A} {a : A} → Listed a l → (place : ℕ) × At l place a
-  listed-at {a = a} (foremost {xs = l} e) = (0, subst (λ (x : A). At (x ∷ l) 0 a) e here)
-  listed-at (further m) = let (place, at) = listed-at m in (suc place, there at)
+use Rattle.following.specs.Follows.{Use, Follows, Breaks}
 
 -- ---- a step
 

@@ -1,11 +1,10 @@
 -- The verdict is exact: accepted exactly when the typing is, and otherwise the first failure in document 01's order.
-use Prim.Native.Nat.{ℕ, zero, suc, _<_}
+use Prim.Native.Nat.{ℕ}
 use mathlib.Core.Bool.{true}
-use mathlib.Core.List.{List, [], _∷_, List·Memᴰ as Listed, List·Memᴰ·head as first, List·Memᴰ·tail as later}
+use mathlib.Core.List.{List·Memᴰ as Listed}
 use mathlib.Core.Logic.{_↔_, _⊎_, inl, inr}
-use mathlib.Core.Path.{_≡_, refl, sym, subst}
-use lib.ListN.{length, getD}
-use native.Mathlib.Omega.{arith}
+use mathlib.Core.Path.{_≡_, refl, subst}
+use lib.ListN.{length}
 use Rattle.roles.specs.declared.RoleSet.{RoleSet}
 use Rattle.roles.specs.Members.{Sized}
 use Rattle.model.specs.declared.Typing.{Typing as Table}
@@ -19,6 +18,7 @@ use Rattle.sheets.specs.Turned.{turnedOf}
 use Rattle.rules.specs.Tests.{personPasses, assignPasses, revokePasses, goalPasses}
 use Rattle.rules.specs.Exact.{Laid, SizedRule, person-exact, assign-exact, revoke-exact, goal-exact}
 use Rattle.reading.specs.Policy.{Said, policyOf}
+use Rattle.steps.specs.Places.{at-inside, at-stands, stands-at, at-listed, listed-at}
 use Rattle.judging.specs.declared.Part.{Part}
 use Rattle.judging.specs.declared.TypingVerdict.{TypingVerdict}
 use Rattle.judging.specs.Verdict.{subjectOf, firstHolding, firstAssign, firstRevoke, firstGoal, failingPart, andThen, rulesSaid, allSaid, judgedRules, judgedTyping, rulesVerdict, typingVerdict}
@@ -43,21 +43,11 @@ pub data FirstFailure (Γ : Typing) (P : Policy) (σ : State) : Part → ℕ →
 
 -- ---- the holdings of every user, by place or by person
 
--- a person of a list stands at a place, and what stands at a place is of the list
-at-place : {A : Type 0} (xs : List A) (past : A) (i : ℕ) → i < length xs → Listed (getD xs i past) xs
-at-place [] past i here = absurd (omega (arith, here))
-at-place (x ∷ xs) past zero here = first refl
-at-place (x ∷ xs) past (suc i) here = later (at-place xs past i (omega (arith, here)))
-
-place-of : {A : Type 0} (past : A) {x : A} {xs : List A} → Listed x xs → (i : ℕ) × (i < length xs) × (getD xs i past ≡ x)
-place-of past (first e) = (0, omega arith, sym e)
-place-of past (later m) = let (i, here, same) = place-of past m in (suc i, omega (arith, here), same)
-
 holdings-each : (Γ : Typing) (σ : State) → HoldingsPass Γ σ ↔ ((p : Person) → Listed p σ → WellTyped Γ p)
 unfolding person
 holdings-each Γ σ = (
-  λ pass p m. let (i, here, same) = place-of nobody m in subst (WellTyped Γ) same (pass .user (record { listed = here })),
-  λ each. record { user = λ {user} here. each (person σ user) (at-place σ nobody user (here .listed)) },
+  λ pass p m. let (place, at) = listed-at m in subst (WellTyped Γ) (at-stands nobody at) (pass .user (record { listed = at-inside at })),
+  λ each. record { user = λ {user} here. each (person σ user) (at-listed (stands-at nobody σ user (here .listed))) },
 )
 
 module _ {s : Said} {t : Table} (sized : SizedPolicy s) (laid : Laid t (length (s .roles))) where

@@ -16,7 +16,7 @@ use Rattle.text.specs.Forms.{bytes, every}
 use Rattle.tables.specs.Names.{placeOf}
 use Rattle.text.specs.Pieces.{split}
 use Rattle.reading.specs.Texts.{Judged, goes, ends, read, readLines, lines-next, onward-goes, onward-ends, closing-none, text-fits}
-use Rattle.steps.specs.Places.{at-listed}
+use Rattle.steps.specs.Places.{stands-at, at-listed}
 use Rattle.spelling.specs.TypingText.{rowText, rowsText, typingText}
 use Rattle.typings.specs.TypingLines.{typingLine}
 use Rattle.typings.specs.TypingText.{Typed, untyped, added, answered, judgeLine, readTyping, tableOf}
@@ -51,7 +51,7 @@ upTo rows t = record { stage = suc rows; labels = take rows (t .labels); plus = 
 
 -- a set that stands in a list of sets is inside what all are
 inside-at : (roles role : ℕ) (sets : List RoleSet) {set : RoleSet} → ((s : RoleSet) → Listed s sets → Inside roles s) → role < length sets → set ≡ getD sets role emptySet → Inside roles set
-inside-at roles role sets each here is = subst⁻¹ (Inside roles) is (each (getD sets role emptySet) (at-listed emptySet sets role here))
+inside-at roles role sets each here is = subst⁻¹ (Inside roles) is (each (getD sets role emptySet) (at-listed (stands-at emptySet sets role here)))
 
 -- one row more in a column
 column-more : {A : Type 0} (filling : A) (column : List A) (role : ℕ) {a : A} → role < length column → a ≡ getD column role filling → take role column ++ (a ∷ []) ≡ take (suc role) column

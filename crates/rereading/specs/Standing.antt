@@ -14,7 +14,7 @@ use Rattle.text.specs.Forms.{every, isName}
 use Rattle.tables.specs.Names.{packed, placeOf}
 use Rattle.text.specs.Pieces.{sameBytes, among, repeated, same-equal}
 use Rattle.fields.specs.Fields.{placed}
-use Rattle.steps.specs.Places.{at-listed}
+use Rattle.steps.specs.Places.{stands-at, at-listed}
 use Rattle.writing.specs.Written.{spelled}
 use Rattle.writing.specs.Spelling.{spelled-packed}
 use Rattle.spelling.specs.TypingText.{namesFrom}
@@ -35,7 +35,7 @@ standing {names} named = go 0 names (omega arith) refl
         let here : role < length names = omega (arith, length-drop role names, ap length left) in
         let cut = sym (drop-cons names role name here) ∙ left in
         let own : getD names role name ≡ name = cc in
-        more (subst Spelt own (named .spelt (getD names role name) (at-listed name names role here))) (subst (λ (n : Name). placeOf names n ≡ role) own (named .single name role here)) (go (suc role) rest here (cc))
+        more (subst Spelt own (named .spelt (getD names role name) (at-listed (stands-at name names role here)))) (subst (λ (n : Name). placeOf names n ≡ role) own (named .single name role here)) (go (suc role) rest here (cc))
 
 -- the names that are left go to the end of the table
 pub to-end : {table : List Name} {role : ℕ} {rest : List Name} → Standing table role rest → role + length rest ≡ length table

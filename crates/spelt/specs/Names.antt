@@ -15,17 +15,13 @@ use Rattle.tables.specs.Names.{packed, sameName, placeOf, packed-one-to-one, pl
 use Rattle.text.specs.Forms.{every, isName, namesOf}
 use Rattle.text.specs.Pieces.{sameBytes, among, repeated, same-equal, equal-same}
 use Rattle.fields.specs.Fields.{placed, isDeclared, allDeclared, rolesFrom, rolesOf}
+use Rattle.steps.specs.Places.{At, here, there, at-inside, at-listed, listed-at}
 use Rattle.rereading.specs.Roles.{role-kept}
 
 -- Byte strings that are names, none of them twice.
 pub record Names (names : List (List ℕ)) : Type 0 where
   pub forms : every isName names ≡ true
   pub single : repeated names ≡ false
-
--- A byte string stands at a place of a list, counted from 0.
-pub data At (s : List ℕ) : List (List ℕ) → ℕ → Type 0 where
-  here : {t : List ℕ} {rest : List (List ℕ)} → s ≡ t → At s (t ∷ rest) 0
-  later : {t : List ℕ} {rest : List (List ℕ)} {place : ℕ} → At s rest place → At s (t ∷ rest) (suc place)
 
 -- A role whose name is among those written.
 pub record RoleOf (names written : List (List ℕ)) (role : ℕ) : Type 0 where
@@ -60,15 +56,7 @@ neither false b e = (refl, e)
 
 -- ---- where a name stands
 
--- what stands at a place is among the byte strings, and passes every test that they all pass
-pub at-listed : {s : List ℕ} {names : List (List ℕ)} {place : ℕ} → At s names place → Listed s names
-at-listed (here e) = first e
-at-listed (later at) = next (at-listed at)
-
-pub listed-at : {s : List ℕ} {names : List (List ℕ)} → Listed s names → (place : ℕ) × At s names place
-listed-at (first e) = (0, here e)
-listed-at (next m) = let below = listed-at m in (suc (below .0), later (below .1))
-
+-- a byte string that is listed passes every test that all pass, and is found among them
 pub listed-passes : (test : List ℕ → Bool) {s : List ℕ} {names : List (List ℕ)} → every test names ≡ true → Listed s names → test s ≡ true
 unfolding every
 listed-passes test all (first {x} {xs} e) = ap test e ∙ and-eq-true-iff (test x) (every test xs) .0 all .0
@@ -83,15 +71,11 @@ listed-among {s} (next {x} {xs} m) = go (sameBytes s x) (listed-among m)
     go true below = refl
     go false below = below
 
-pub at-below : {s : List ℕ} {names : List (List ℕ)} {place : ℕ} → At s names place → place < length names
-at-below (here e) = omega arith
-at-below (later at) = omega (arith, at-below at)
-
 -- the place that is found, where no name stands twice
 place-found : {s : List ℕ} {names : List (List ℕ)} {place : ℕ} → every isName names ≡ true → repeated names ≡ false → At s names place → placeOf (map packed names) (packed s) ≡ place
 unfolding placeOf every repeated
-place-found {s} forms single (here {t} {rest} e) = rw (← e, same-self (packed s))
-place-found {s} forms single (later {t} {rest} {place} at) =
+place-found {s} forms single here = rw (same-self (packed s))
+place-found {s} forms single (there {b = t} {l = rest} {place = place} at) =
     let form = and-eq-true-iff (isName t) (every isName rest) .0 forms in
     let alone = neither (among t rest) (repeated rest) single in
     ap (λ (b : Bool). cond b 0 (suc (placeOf (map packed rest) (packed s)))) (same-packed t s (form .0) (listed-passes isName (form .1) (at-listed at)) ∙ other (sameBytes t s) refl (alone .0))
@@ -112,8 +96,8 @@ found-at {s} (t ∷ rest) forms form inside =
     go : (b : Bool) → b ≡ sameBytes t s → cond b 0 (suc (placeOf (map packed rest) (packed s))) < suc (length rest)
         → (placeOf (map packed rest) (packed s) < length rest → At s rest (placeOf (map packed rest) (packed s)))
         → At s (t ∷ rest) (cond b 0 (suc (placeOf (map packed rest) (packed s))))
-    go true same less below = here (sym (same-equal t s (sym same)))
-    go false same less below = later (below (omega arith))
+    go true same less below = subst (λ (x : List ℕ). At s (x ∷ rest) 0) (sym (same-equal t s (sym same))) here
+    go false same less below = there (below (omega arith))
 
 -- ---- a name field
 
@@ -123,7 +107,7 @@ module _ {names : List (List ℕ)} (all : Names names) where
   unfolding placed
   placed-exact {field} form place = (
     λ found. subst (At field names) (found .0) (found-at names (all .forms) form (omega (arith, found .0, found .1))),
-    λ at. (place-found (all .forms) (all .single) at, at-below at),
+    λ at. (place-found (all .forms) (all .single) at, at-inside at),
   )
 
   -- A name that is declared stands where it is found.

@@ -4,7 +4,7 @@ use mathlib.Core.Bool.{Bool, true, false, and-eq-true-iff, false≢true}
 use mathlib.Core.List.{List, [], _∷_, _++_, map, List·Memᴰ as Listed, List·Memᴰ·head as first, List·Memᴰ·tail as next, List·Memᴰ·not-nil as not-nil}
 use mathlib.Core.Logic.{_↔_}
 use mathlib.Core.Path.{_≡_, refl, sym, ap, ap₂, subst, _∙_}
-use lib.ListN.{length, length-map, replicate}
+use lib.ListN.{length, getD, length-map, replicate}
 use native.Mathlib.Omega.{arith}
 use Rattle.roles.specs.declared.RoleSet.{RoleSet}
 use Rattle.roles.specs.Sets.{emptySet, hasRole, withoutOf}
@@ -18,11 +18,12 @@ use Rattle.reading.specs.Texts.{read}
 use Rattle.reading.specs.Policy.{Said, readPolicy, padded}
 use Rattle.reading.specs.Kept.{read-bounded}
 use Rattle.typings.specs.TypingText.{Typed, readTyping, tableOf}
+use Rattle.steps.specs.Places.{At, at-stands, at-listed, listed-at}
 use Rattle.judging.specs.Verdict.{pinnedNames}
 use Rattle.judging.specs.Pinned.{membersOf, members-more, members-none, empty-members, pinned-members}
 use Rattle.verdicts.specs.TypingLaid.{read-laid}
 use Rattle.rereading.specs.Cuts.{free, cut-first}
-use Rattle.spelt.specs.Names.{Names, At, here, later, RoleOf, neither, at-listed, listed-at, listed-among, listed-passes, placed-exact}
+use Rattle.spelt.specs.Names.{Names, RoleOf, neither, listed-among, listed-passes, placed-exact}
 use Rattle.spelt.specs.Policies.{roles-packed}
 use Rattle.spelt.specs.Lines.{ended}
 use Rattle.spelt.specs.Sets.{SetSpelt, written-names}
@@ -52,10 +53,7 @@ namesIn text = lineNames (split 10 text)
 
 -- one name stands at a place, and a name at one place
 same-name : {s t : List ℕ} {names : List (List ℕ)} {place other : ℕ} → place ≡ other → At s names place → At t names other → s ≡ t
-same-name same (here e) (here f) = e ∙ sym f
-same-name same (here e) (later at) = absurd (omega arith)
-same-name same (later at) (here f) = absurd (omega arith)
-same-name same (later at) (later to) = same-name (omega arith) at to
+same-name {s} {names = names} same at to = sym (at-stands s at) ∙ ap (λ (k : ℕ). getD names k s) same ∙ at-stands s to
 
 module _ {names : List (List ℕ)} (all : Names names) where
   same-place : {s : List ℕ} {place other : ℕ} → At s names place → At s names other → place ≡ other

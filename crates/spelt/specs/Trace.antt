@@ -7,8 +7,8 @@ use lib.ListN.{length}
 use Rattle.text.specs.Forms.{bytes}
 use Rattle.writing.specs.Written.{decimal}
 use Rattle.steps.specs.declared.Step.{Step}
+use Rattle.steps.specs.Places.{At}
 use Rattle.traces.specs.TraceText.{Traced}
-use Rattle.spelt.specs.Names.{At}
 use Rattle.spelt.specs.Lines.{parted, ended}
 
 -- A step's line: a word, the actor's name, the rule's number, the user's name, parted by tabs. The actor and the user are the places

@@ -16,6 +16,7 @@ use Rattle.fields.specs.Turns.{turnOf}
 use Rattle.reading.specs.Texts.{Judged, goes, ends, bad}
 use Rattle.writing.specs.Written.{decimal}
 use Rattle.steps.specs.declared.Step.{Step}
+use Rattle.steps.specs.Places.{at-listed}
 use Rattle.traces.specs.declared.TraceLine.{TraceLine}
 use Rattle.traces.specs.TraceLines.{Line, fourFields, lineOf, isStep, stepNamed, answerTo, judged, traceLine}
 use Rattle.traces.specs.TraceLines as line
@@ -23,7 +24,7 @@ use Rattle.traces.specs.TraceText.{Traced, headerLine, answered, laterLine, jud
 use Rattle.rereading.specs.Cuts.{free, free-name}
 use Rattle.rereading.specs.Joined.{Apart}
 use Rattle.rereading.specs.Rows.{tab, newline}
-use Rattle.spelt.specs.Names.{Names, at-listed, listed-passes, placed-exact, declared-at, declared-exact}
+use Rattle.spelt.specs.Names.{Names, listed-passes, placed-exact, declared-at, declared-exact}
 use Rattle.spelt.specs.Lines.{parted, fields-parted, parted-fields, parted-free}
 use Rattle.spelt.specs.Numbers.{Digits, number-digits, digits-number, digits-free}
 use Rattle.spelt.specs.Trace.{StepLine, StepSpelt, assign, revoke}

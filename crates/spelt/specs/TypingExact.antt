@@ -13,9 +13,10 @@ use Rattle.text.specs.Forms.{bytes, every, isName}
 use Rattle.reading.specs.Texts.{goes, read}
 use Rattle.reading.specs.Policy.{Said, readPolicy}
 use Rattle.reading.specs.Kept.{read-bounded}
+use Rattle.steps.specs.Places.{At, here, there, at-inside}
 use Rattle.typings.specs.TypingText.{Typed, untyped, judgeLine, readTyping}
 use Rattle.rereading.specs.Cuts.{free}
-use Rattle.spelt.specs.Names.{Names, At, here, later, at-below}
+use Rattle.spelt.specs.Names.{Names}
 use Rattle.spelt.specs.Policies.{roles-packed}
 use Rattle.spelt.specs.Lines.{ended, Lead, last, onward, InLines, lead-opened, lines-exact}
 use Rattle.spelt.specs.Typing.{Row, Rows, none, row, TypingSpelt}
@@ -23,14 +24,14 @@ use Rattle.spelt.specs.TypingLines.{headed, rowed, Adds, first, another,
 
 -- what stands where some names end is the next name
 seam : (done : List (List ℕ)) (next : List ℕ) (rest : List (List ℕ)) {name : List ℕ} {place : ℕ} → place ≡ length done → At name (done ++ (next ∷ rest)) place → name ≡ next
-seam [] next rest is (here e) = e
-seam [] next rest is (later at) = absurd (omega arith)
-seam (x ∷ done) next rest is (here e) = absurd (omega arith)
-seam (x ∷ done) next rest is (later at) = seam done next rest (omega arith) at
+seam [] next rest is here = refl
+seam [] next rest is (there at) = absurd (omega arith)
+seam (x ∷ done) next rest is here = absurd (omega arith)
+seam (x ∷ done) next rest is (there at) = seam done next rest (omega arith) at
 
 seam-at : (done : List (List ℕ)) (name : List ℕ) (rest : List (List ℕ)) → At name (done ++ (name ∷ rest)) (length done)
-seam-at [] name rest = here refl
-seam-at (x ∷ done) name rest = later (seam-at done name rest)
+seam-at [] name rest = here
+seam-at (x ∷ done) name rest = there (seam-at done name rest)
 
 -- a typing with the rows of some roles more
 unfoldable extended : ℕ → Typed → List Bool → List RoleSet → List RoleSet → Typed
@@ -82,7 +83,7 @@ module _ {names : List (List ℕ)} (all : Names names) (few : length names ≤ 1
     where
       past : {line : List ℕ} {t : Typed} → Adds names s line t → ⊥
       past (first start) = omega arith
-      past (another stage stands said) = omega (arith, at-below stands, ap length parts, length-append done [])
+      past (another stage stands said) = omega (arith, at-inside stands, ap length parts, length-append done [])
   rows-left done (next ∷ rest) parts at (onward {s} {t} {u} {line} {lines} good below) =
       go (goes-adds all few good) (λ stage. rows-left (done ++ (next ∷ [])) rest (parts ∙ sym (append-assoc done (next ∷ []) rest)) stage below)
     where

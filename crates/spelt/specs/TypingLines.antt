@@ -17,13 +17,14 @@ use Rattle.text.specs.Pieces.{split, onto, sameBytes, same-equal}
 use Rattle.fields.specs.Fields.{placed, allDeclared, rolesOf}
 use Rattle.fields.specs.Turns.{turnOf}
 use Rattle.reading.specs.Texts.{Judged, goes, ends, bad}
+use Rattle.steps.specs.Places.{At, at-listed}
 use Rattle.spelling.specs.TypingText.{labelText}
 use Rattle.typings.specs.TypingLines.{Line, header, row, end, other, oneField, twoFields, lineOf, wellFormed, named, entry, answerTo, judged, typingLine}
 use Rattle.typings.specs.TypingText.{Typed, added, answered, judgeLine}
 use Rattle.rereading.specs.Cuts.{free, free-name}
 use Rattle.rereading.specs.Joined.{Apart, free-joined}
 use Rattle.rereading.specs.Rows.{tab, newline, label-name, label-form, label-back, header-good, end-good}
-use Rattle.spelt.specs.Names.{Names, At, at-listed, listed-passes, placed-exact}
+use Rattle.spelt.specs.Names.{Names, listed-passes, placed-exact}
 use Rattle.spelt.specs.Lines.{parted, fields-parted, parted-fields, parted-free}
 use Rattle.spelt.specs.Sets.{SetSpelt, set-read, written-forms, set-form, set-declared, set-is}
 use Rattle.spelt.specs.Typing.{Row}

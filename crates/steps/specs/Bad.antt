@@ -15,7 +15,7 @@ use Rattle.model.specs.Policy.{L, State, nobody, person, Present, HoldsAll, Bad
 use Rattle.rules.specs.Joined.{within-exact}
 use Rattle.steps.specs.declared.Found.{Found}
 use Rattle.steps.specs.First.{first, Earliest, Nowhere, look, first-some, first-none}
-use Rattle.steps.specs.Places.{at-listed, listed-at}
+use Rattle.steps.specs.Places.{at-inside, at-stands, stands-at, at-listed, listed-at}
 use Rattle.steps.specs.Tests.{lowestGoal, ownGoal, badPerson, goalOf, firstBad}
 
 -- The sets of every goal are words of 64 bits, as those of every goal that a program holds.
@@ -59,7 +59,7 @@ pub record FirstBad (goals : List RoleSet) (σ : State) (found : Found) : Type 0
 -- a goal at a place below the length is listed
 goal-listed : (goals : List RoleSet) (goal : ℕ) → goal < length goals → Listed (goalAt goals goal) goals
 unfolding goalAt
-goal-listed goals goal inside = at-listed emptySet goals goal inside
+goal-listed goals goal inside = at-listed (stands-at emptySet goals goal inside)
 
 -- a test is false exactly when it is not true
 refuted : (a : Bool) → a ≡ false ↔ (a ≡ true → ⊥)
@@ -96,9 +96,9 @@ module _ {goals : List RoleSet} (sizes : SizedGoals goals) where
   unfolding lowestGoal
   lowest-none roles = (
     λ e goal listed within.
-        let at = listed-at emptySet listed in
-        refuted _ .0 (first-none (includes roles) emptySet goals .0 e .fails (at .place) (at .inside)) (rw (at .stands) (within-exact roles (sizes .sized listed) .1 within)),
-    λ none. first-none (includes roles) emptySet goals .1 (record { fails = λ place lt. refuted _ .1 (λ e. none _ (at-listed emptySet goals place lt) (includes-within _ roles e)) }),
+        let (place, at) = listed-at listed in
+        refuted _ .0 (first-none (includes roles) emptySet goals .0 e .fails place (at-inside at)) (rw (at-stands emptySet at) (within-exact roles (sizes .sized listed) .1 within)),
+    λ none. first-none (includes roles) emptySet goals .1 (record { fails = λ place lt. refuted _ .1 (λ e. none _ (at-listed (stands-at emptySet goals place lt)) (includes-within _ roles e)) }),
   )
 
   -- A person's own goal has a number exactly when the person is L and that goal is the lowest.

@@ -13,7 +13,7 @@ use Rattle.model.specs.Policy.{State, person, Present, CanAssign, CanRevoke}
 use Rattle.rules.specs.Joined.{not-exact}
 use Rattle.rules.specs.Exact.{SizedRule}
 use Rattle.steps.specs.declared.Step.{Step as TraceStep}
-use Rattle.steps.specs.Places.{at-listed}
+use Rattle.steps.specs.Places.{stands-at, at-listed}
 use Rattle.steps.specs.Tests.{mayAssign, mayRevoke}
 use Rattle.steps.specs.Traces.{assignAt, revokeAt, possible, after, broken, ran, later, runOf}
 use Rattle.steps.specs.Runs.{broken-same, broken-ran, later-broken, run-on, run-off, run-breaks}
@@ -87,7 +87,7 @@ module _ (assigns : List Assign) (revokes : List Revoke) (σ : State) (actor rul
         (ltb-true _ _ inside, may-can σ actor user (record { listed = ltb-true _ _ actor-listed }) (record { listed = ltb-true _ _ user-listed }) may),
     λ (inside, can).
         four _ _ _ _ .1
-        (lt-ltb _ _ inside, lt-ltb _ _ (can .actor-present .listed), lt-ltb _ _ (can .user-present .listed), can-may σ actor user (sizes .sized (at-listed _ assigns rule inside)) can),
+        (lt-ltb _ _ inside, lt-ltb _ _ (can .actor-present .listed), lt-ltb _ _ (can .user-present .listed), can-may σ actor user (sizes .sized (at-listed (stands-at _ assigns rule inside))) can),
   )
 
   -- A revoke step likewise.

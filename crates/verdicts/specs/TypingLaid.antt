@@ -21,7 +21,7 @@ use Rattle.reading.specs.Texts.{goes, ends, bad, read}
 use Rattle.fields.specs.Fields.{rolesOf}
 use Rattle.reading.specs.Policy.{padded}
 use Rattle.reading.specs.Kept.{text-keeps}
-use Rattle.steps.specs.Places.{at-listed}
+use Rattle.steps.specs.Places.{stands-at, at-listed}
 use Rattle.typings.specs.declared.TypingEntry.{TypingEntry}
 use Rattle.typings.specs.declared.TypingLine.{TypingLine}
 use Rattle.fields.specs.Turns.{turnOf}
@@ -158,7 +158,7 @@ at-sized : (sets : List RoleSet) → ((s : RoleSet) → Listed s sets → Sized 
 at-sized sets each role = go (decLt role (length sets))
   where
     go : Dec (role < length sets) → Sized (getD sets role emptySet)
-    go (yes here) = each (getD sets role emptySet) (at-listed emptySet sets role here)
+    go (yes here) = each (getD sets role emptySet) (at-listed (stands-at emptySet sets role here))
     go (no past) = subst⁻¹ Sized (List·getD-eq-default sets emptySet (omega arith)) empty-sized
 
 -- The typing that is read is laid out over the policy's roles.
