@@ -12,7 +12,6 @@ use judging::pinned;
 use lines::Counts;
 use model::Typing;
 use places::is_typing;
-use reading::directory::has_header;
 use reading::directory::read_directory;
 use reading::policy::read_rules;
 use running::TraceVerdict;
@@ -123,7 +122,7 @@ pub fn named_answer(policy: &[u8], evidence: &[u8]) -> NamedAnswer
     if 32768 < policy.len() {
         return unnamed(Answer::Refused(10, 0));
     }
-    if !has_header(policy) {
+    if !text::begins_with(policy, b"arbac\t1\n") {
         return unnamed(Answer::Refused(11, 1));
     }
     answer_read(policy, evidence)

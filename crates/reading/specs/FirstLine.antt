@@ -1,34 +1,14 @@
 -- A text begins with its header, the first line with its LF, or is refused at line 1: for any judge of lines.
-use Prim.Native.Nat.{ℕ, suc, _≤_}
-use mathlib.Core.Bool.{Bool, true, false, cond, _&&_, true≢false}
+use Prim.Native.Nat.{ℕ, _≤_}
+use mathlib.Core.Bool.{Bool, true, false, cond, true≢false}
 use mathlib.Core.List.{List, [], _∷_, _++_, append-assoc}
 use mathlib.Core.Path.{_≡_, refl, sym, ap, ap₂, _∙_}
-use borrow.Author.Tests.{eqb-true, eq-eqb}
+use borrow.Author.Tests.{eqb-true}
 use lib.Dec.{eqb}
-use lib.ListN.{length, take, drop, length-take, length-append, take-append-drop}
-use native.Mathlib.Omega.{arith}
-use Rattle.text.specs.Pieces.{split, onto, sameBytes, same-equal, split-piece}
+use lib.ListN.{length}
+use Rattle.text.specs.Pieces.{split, onto, split-piece}
+use Rattle.text.specs.Begins.{begins, begins-onward}
 use Rattle.reading.specs.Texts.{Judged, bad, refused, onward, readLines, readText, text-fits}
-
--- The text begins with a line and its LF.
-unfoldable pub begins : (line text : List ℕ) → Bool
-begins line text = sameBytes (take (suc (length line)) text) (line ++ (10 ∷ []))
-
--- a shorter text does not
-pub begins-short : (line text : List ℕ) → length text ≤ length line → false ≡ begins line text
-unfolding begins
-begins-short line text short = go (begins line text) refl
-  where
-    go : (b : Bool) → begins line text ≡ b → false ≡ begins line text
-    go false is = sym is
-    go true is =
-        absurd (omega (arith, ap length (same-equal (take (suc (length line)) text) (line ++ (10 ∷ [])) is), length-take (suc (length line)) text, length-append line (10 ∷ [])))
-
--- one that has the line as its first does
-begins-line : (line rest : List ℕ) → begins line (line ++ (10 ∷ rest)) ≡ true
-unfolding begins sameBytes
-begins-line [] rest = refl
-begins-line (byte ∷ line) rest = ap₂ _&&_ (eq-eqb byte byte refl) (begins-line line rest)
 
 -- the first of several pieces, then the separator and the bytes of the others
 pub first-piece : (mark : ℕ) (s : List ℕ) {a b : List ℕ} {more : List (List ℕ)} → split mark s ≡ a ∷ b ∷ more → (rest : List ℕ) × (s ≡ a ++ (mark ∷ rest)) × (split mark rest ≡ b ∷ more)
@@ -49,16 +29,9 @@ first-piece mark (byte ∷ s) {a} {b} {more} e = go (eqb byte mark) refl e (spli
         let first : byte ∷ p ≡ a = cc in
         (left .0, ap (λ (l : List ℕ). byte ∷ l) (left .1) ∙ ap (λ (l : List ℕ). l ++ (mark ∷ left .0)) first, left .2)
 
--- its bytes are those of the line, LF, and what follows
-pub begins-whole : (line text : List ℕ) → begins line text ≡ true → text ≡ line ++ (10 ∷ drop (suc (length line)) text)
-unfolding begins
-begins-whole line text is =
-    sym (take-append-drop (suc (length line)) text) ∙ ap (λ (l : List ℕ). l ++ drop (suc (length line)) text) (same-equal (take (suc (length line)) text) (line ++ (10 ∷ [])) is)
-    ∙ append-assoc line (10 ∷ []) (drop (suc (length line)) text)
-
 module _ {S : Type 0} (judge : S → List ℕ → Judged S) (malformed long : ℕ) (start : S) where
-  -- Where any other first line is malformed, a text that does not begin with the line is malformed at line 1.
-  pub not-begun : (line : List ℕ) → ((other : List ℕ) → (other ≡ line → ⊥) → judge start other ≡ bad malformed) → (text : List ℕ) → length text ≤ 32768 → begins line text ≡ false
+  -- Where any other first line is malformed, a text that does not begin with the line and its LF is malformed at line 1.
+  pub not-begun : (line : List ℕ) → ((other : List ℕ) → (other ≡ line → ⊥) → judge start other ≡ bad malformed) → (text : List ℕ) → length text ≤ 32768 → begins (line ++ (10 ∷ [])) text ≡ false
       → readText judge malformed long start text ≡ refused malformed 1
   unfolding readLines onward
   not-begun line malforms text short none = text-fits judge malformed long start text short ∙ go (split 10 text) refl
@@ -66,7 +39,7 @@ module _ {S : Type 0} (judge : S → List ℕ → Judged S) (malformed long : �
       differs : {first next : List ℕ} {more : List (List ℕ)} → split 10 text ≡ first ∷ next ∷ more → first ≡ line → ⊥
       differs {first} cut is =
           let (rest, whole, left) = first-piece 10 text cut in
-          true≢false (sym (ap (begins line) (whole ∙ ap (λ (l : List ℕ). l ++ (10 ∷ rest)) is) ∙ begins-line line rest) ∙ none)
+          true≢false (sym (ap (begins (line ++ (10 ∷ []))) (whole ∙ ap (λ (l : List ℕ). l ++ (10 ∷ rest)) is ∙ sym (append-assoc line (10 ∷ []) rest)) ∙ begins-onward (line ++ (10 ∷ [])) rest) ∙ none)
 
       go : (pieces : List (List ℕ)) → split 10 text ≡ pieces → readLines judge malformed start 1 pieces ≡ refused malformed 1
       go [] cut = refl

@@ -1,26 +1,17 @@
 -- The header of a policy text: it is the first line, with its LF, or the text is refused at line 1.
-use Prim.Native.Nat.{ℕ, _≤_, _<_}
+use Prim.Native.Nat.{ℕ, _≤_}
 use mathlib.Core.Bool.{Bool, true, false, cond}
 use mathlib.Core.List.{List, [], _∷_, _++_}
 use mathlib.Core.Path.{_≡_, refl, ap₂, _∙_}
-use lib.ListN.{length, take}
-use native.Mathlib.Omega.{arith}
+use lib.ListN.{length}
 use Rattle.text.specs.Forms.{bytes}
 use Rattle.text.specs.Pieces.{split, sameBytes, same-equal}
+use Rattle.text.specs.Begins.{begins}
 use Rattle.reading.specs.Texts.{Judged, bad, refused}
-use Rattle.reading.specs.FirstLine.{begins, begins-short, first-piece, not-begun}
+use Rattle.reading.specs.FirstLine.{first-piece, not-begun}
 use Rattle.lines.specs.Lines.{Line, header, role, user, has, assign, revoke, goal, end, other, oneField, twoFields, threeFields, fiveFields, lineOf, inOrder, wellFormed, inTurn, judged, policyLine}
 use Rattle.reading.specs.Policy.{Said, nothing, countsOf, answered, judgeLine, readPolicy}
 use Rattle.reading.specs.PolicyExact.{whole-piece}
-
--- The text begins with `arbac`, a tab, `1` and LF.
-unfoldable pub hasHeader : List ℕ → Bool
-hasHeader text = sameBytes (take 8 text) (bytes "arbac\t1\n")
-
--- a shorter text does not
-pub header-short : (text : List ℕ) → length text < 8 → false ≡ hasHeader text
-unfolding hasHeader begins
-header-short text short = begins-short (bytes "arbac\t1") text (omega arith)
 
 -- a line that is not the header is malformed before any other line
 not-header : (line : List ℕ) → (line ≡ bytes "arbac\t1" → ⊥) → judgeLine nothing line ≡ bad 11
@@ -69,6 +60,6 @@ not-header line other-line = go (split 9 line) refl
     go (w ∷ a ∷ b ∷ c ∷ d ∷ e ∷ more) cut = refl
 
 -- A text that is not too long and does not begin with the header is malformed at line 1.
-pub headless : (text : List ℕ) → length text ≤ 32768 → hasHeader text ≡ false → readPolicy text ≡ refused 11 1
-unfolding readPolicy hasHeader begins
+pub headless : (text : List ℕ) → length text ≤ 32768 → begins (bytes "arbac\t1\n") text ≡ false → readPolicy text ≡ refused 11 1
+unfolding readPolicy
 headless text short none = not-begun judgeLine 11 10 nothing (bytes "arbac\t1") not-header text short none

@@ -1,7 +1,6 @@
 // The directory of a policy text, its roles, its users and what they hold, read line by line into arrays.
 ghost use mathlib.Core.Path.{_≡_};
 ghost use Rattle.reading.specs.Policy.{codeOf};
-ghost use Rattle.reading.specs.Header.{hasHeader};
 ghost use Rattle.reading.specs.Directory.{refusedDirectory, directoryRead};
 use lines::Counts;
 use lines::Entry;
@@ -21,16 +20,6 @@ pub struct Directory {
     pub roles: [u64; 512],
     pub users: [u64; 512],
     pub counts: Counts,
-}
-
-// Whether the first line is the header of a policy, with its LF.
-pub fn has_header(text: &[u8]) -> bool
-    ensures { λ r. ⌜ r ≡ hasHeader (now (text .entry)) ⌝ }
-{
-    if text.len() < 8 {
-        return false;
-    }
-    text::same(&text[0..8], b"arbac\t1\n")
 }
 
 // A refusal, 0 and 0 for none, with the directory of no lines.

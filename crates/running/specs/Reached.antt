@@ -15,6 +15,7 @@ use Rattle.model.specs.Policy.{State}
 use Rattle.tables.specs.Names.{rows, rows-length}
 use Rattle.text.specs.Forms.{bytes}
 use Rattle.text.specs.Pieces.{part, sameBytes, Sought}
+use Rattle.text.specs.Begins.{begins}
 use Rattle.reading.specs.Texts.{Reading, refused}
 use Rattle.steps.specs.declared.Found.{Found}
 use Rattle.steps.specs.declared.Step.{Step}
@@ -24,7 +25,7 @@ use Rattle.steps.specs.Runs.{run-more, run-breaks}
 use Rattle.steps.specs.Exact.{broken-stays}
 use Rattle.traces.specs.declared.TraceLine.{TraceLine}
 use Rattle.traces.specs.TraceLines.{traceLine}
-use Rattle.traces.specs.TraceText.{Traced, hasHeader, readTrace}
+use Rattle.traces.specs.TraceText.{Traced, readTrace}
 use Rattle.traces.specs.TraceWalk.{After, after-header, line-last, line-step}
 use Rattle.running.specs.declared.TraceVerdict.{TraceVerdict}
 use Rattle.running.specs.Layout.{Arrays, Counted, saidIn}
@@ -76,7 +77,7 @@ pub refused-is : {p : Arrays} → Arrayed p → (text : List ℕ) {k n : ℕ} �
 unfolding readVerdict
 refused-is arrayed text is = verdict-is arrayed text is
 
-pub reached-start : (p : Arrays) (text : List ℕ) → Arrayed p → length text ≤ 32768 → hasHeader text ≡ true → Reached p text 8 2 0 0 (p .persons)
+pub reached-start : (p : Arrays) (text : List ℕ) → Arrayed p → length text ≤ 32768 → begins (bytes "trace\t1\n") text ≡ true → Reached p text 8 2 0 0 (p .persons)
 unfolding runOf soFar
 reached-start p text arrayed short is = record {
   arrayed = arrayed;

@@ -16,7 +16,6 @@ use steps::may_revoke;
 use steps::taken;
 use traces::TraceLine;
 use traces::code;
-use traces::has_header;
 use traces::read_line;
 
 // The verdict on a trace.
@@ -82,7 +81,7 @@ pub fn run_trace(text: &[u8], users: &[u64], people: [Person; 64], p: Rules) -> 
     if 32768 < end {
         return TraceVerdict::Refused(14, 0);
     }
-    if !has_header(text) {
+    if !text::begins_with(text, b"trace\t1\n") {
         return TraceVerdict::Refused(15, 1);
     }
     let c = p.counts;

@@ -5,6 +5,7 @@ ghost use lib.ListN.{length, take, drop};
 ghost use Rattle.text.specs.Forms.{every, isName, isLabel, nameByte, numberOf, bytes};
 ghost use Rattle.text.specs.Eights.{eightClear};
 ghost use Rattle.text.specs.Pieces.{sameBytes, Sought};
+ghost use Rattle.text.specs.Begins.{begins};
 
 // Whether eight bytes stand from a place on, none of them the mark.
 fn clear(s: &[u8], at: usize, mark: u8) -> bool
@@ -41,6 +42,16 @@ pub fn same(a: &[u8], b: &[u8]) -> bool
     ensures { λ r. ⌜ r ≡ sameBytes (now (a .entry)) (now (b .entry)) ⌝ }
 {
     check::same(a, b)
+}
+
+// Whether a byte string begins with another.
+pub fn begins_with(s: &[u8], start: &[u8]) -> bool
+    ensures { λ r. ⌜ r ≡ begins (now (start .entry)) (now (s .entry)) ⌝ }
+{
+    if s.len() < start.len() {
+        return false;
+    }
+    same(&s[..start.len()], start)
 }
 
 // Whether a byte may stand in a name.

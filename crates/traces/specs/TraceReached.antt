@@ -8,11 +8,12 @@ use native.Mathlib.Omega.{arith}
 use Rattle.tables.specs.declared.Name.{Name}
 use Rattle.text.specs.Forms.{bytes}
 use Rattle.text.specs.Pieces.{part, sameBytes, Sought}
+use Rattle.text.specs.Begins.{begins}
 use Rattle.steps.specs.declared.Step.{Step}
 use Rattle.reading.specs.Texts.{refused}
 use Rattle.traces.specs.declared.TraceLine.{TraceLine}
 use Rattle.traces.specs.TraceLines.{traceLine}
-use Rattle.traces.specs.TraceText.{hasHeader, readTrace, refusedTrace, answerOf, traceRead}
+use Rattle.traces.specs.TraceText.{readTrace, refusedTrace, answerOf, traceRead}
 use Rattle.traces.specs.TraceWalk.{After, after-header, line-last, line-step}
 
 pub record Reached (assigns revokes : ℕ) (users : List Name) (text : List ℕ) (at number count : ℕ) : Type 0 where
@@ -22,7 +23,7 @@ pub record Reached (assigns revokes : ℕ) (users : List Name) (text : List ℕ)
   pub after : After assigns revokes users text at number steps
 
 module _ (assigns revokes : ℕ) (users : List Name) (text : List ℕ) where
-  pub reached-start : length text ≤ 32768 → hasHeader text ≡ true → Reached assigns revokes users text 8 2 0
+  pub reached-start : length text ≤ 32768 → begins (bytes "trace\t1\n") text ≡ true → Reached assigns revokes users text 8 2 0
   reached-start short is = record { steps = []; counted = refl; few = zero-le; after = after-header assigns revokes users text short is }
 
   -- a refusal, as the record has it

@@ -2,7 +2,7 @@
 use Prim.Native.Nat.{ℕ}
 use mathlib.Core.Bool.{Bool, true, false, cond}
 use mathlib.Core.List.{List, [], _∷_, _++_}
-use lib.ListN.{length, take}
+use lib.ListN.{length}
 use Rattle.tables.specs.declared.Name.{Name}
 use Rattle.text.specs.Forms.{bytes}
 use Rattle.text.specs.Pieces.{sameBytes}
@@ -43,10 +43,6 @@ unfoldable pub readTrace : (assigns revokes : ℕ) → List Name → List ℕ �
 readTrace assigns revokes users text = readText (judgeLine assigns revokes users) 15 14 untraced text
 
 -- ---- as a program reads it
-
--- The text begins with `trace`, a tab, `1` and LF.
-unfoldable pub hasHeader : List ℕ → Bool
-hasHeader text = sameBytes (take 8 text) (bytes "trace\t1\n")
 
 -- the refusal's number of a line that is not a step
 unfoldable pub codeOf : TraceLine → ℕ

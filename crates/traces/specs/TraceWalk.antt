@@ -8,18 +8,14 @@ use native.Mathlib.Omega.{arith}
 use Rattle.tables.specs.declared.Name.{Name}
 use Rattle.text.specs.Forms.{bytes}
 use Rattle.text.specs.Pieces.{split, onto, part, sameBytes, same-answer, Sought}
+use Rattle.text.specs.Begins.{begins, begins-whole}
 use Rattle.steps.specs.declared.Step.{Step}
 use Rattle.reading.specs.Texts.{ends, bad, read, refused, readLines, text-fits, text-long, lines-next, onward-goes}
-use Rattle.reading.specs.FirstLine.{begins, begins-short, begins-whole, not-begun}
+use Rattle.reading.specs.FirstLine.{not-begun}
 use Rattle.reading.specs.Walk.{On, on-end, on-tail, on-bad, on-goes, on-last, on-more}
 use Rattle.traces.specs.declared.TraceLine.{TraceLine}
 use Rattle.traces.specs.TraceLines.{traceLine}
-use Rattle.traces.specs.TraceText.{untraced, headerLine, laterLine, answered, judgeLine, readTrace, hasHeader}
-
--- a text shorter than the header does not begin with it
-pub header-short : (text : List ℕ) → length text < 8 → false ≡ hasHeader text
-unfolding hasHeader begins
-header-short text short = begins-short (bytes "trace\t1") text (omega arith)
+use Rattle.traces.specs.TraceText.{untraced, headerLine, laterLine, answered, judgeLine, readTrace}
 
 -- before the line of this number, after the header and these steps
 pub record After (assigns revokes : ℕ) (users : List Name) (text : List ℕ) (at number : ℕ) (steps : List Step) : Type 0 where
@@ -36,10 +32,10 @@ module _ (assigns revokes : ℕ) (users : List Name) where
   other-first line differs = rw (sym (same-answer line (bytes "trace\t1") false (λ e. absurd (false≢true e)) (λ is. absurd (differs is))))
 
   -- The text begins with the header,
-  pub after-header : (text : List ℕ) → length text ≤ 32768 → hasHeader text ≡ true → After assigns revokes users text 8 2 []
-  unfolding hasHeader begins judgeLine untraced headerLine sameBytes split onto
+  pub after-header : (text : List ℕ) → length text ≤ 32768 → begins (bytes "trace\t1\n") text ≡ true → After assigns revokes users text 8 2 []
+  unfolding judgeLine untraced headerLine sameBytes split onto
   after-header text short is =
-      let whole = begins-whole (bytes "trace\t1") text is in
+      let whole = begins-whole (bytes "trace\t1\n") text is in
       record {
         on = record {
           left =
@@ -53,8 +49,8 @@ module _ (assigns revokes : ℕ) (users : List Name) where
       }
 
   -- or is refused at line 1.
-  pub headless : (text : List ℕ) → length text ≤ 32768 → hasHeader text ≡ false → readTrace assigns revokes users text ≡ refused 15 1
-  unfolding readTrace hasHeader begins
+  pub headless : (text : List ℕ) → length text ≤ 32768 → begins (bytes "trace\t1\n") text ≡ false → readTrace assigns revokes users text ≡ refused 15 1
+  unfolding readTrace
   headless text short none = not-begun (judgeLine assigns revokes users) 15 14 untraced (bytes "trace\t1") other-first text short none
 
 module _ {assigns revokes : ℕ} {users : List Name} {text : List ℕ} {at number : ℕ} {steps : List Step} (after : After assigns revokes users text at number steps) where

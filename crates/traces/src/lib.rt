@@ -4,7 +4,7 @@ ghost use Prim.Native.Nat.{_*_, _-_, _≤_};
 ghost use lib.ListN.{length};
 ghost use Rattle.tables.specs.Names.{rows};
 ghost use Rattle.traces.specs.TraceLines.{fourFields, answerTo, judged, traceLine, stepOf};
-ghost use Rattle.traces.specs.TraceText.{hasHeader, codeOf, refusedTrace, traceRead};
+ghost use Rattle.traces.specs.TraceText.{codeOf, refusedTrace, traceRead};
 use fields::turns::turn;
 use lines::Counts;
 use steps::Step;
@@ -108,16 +108,6 @@ pub fn read_line(line: &[u8], users: &[u64], c: Counts) -> TraceLine
     )
 }
 
-// Whether the first line is the header of a trace, with its LF.
-pub fn has_header(text: &[u8]) -> bool
-    ensures { λ r. ⌜ r ≡ hasHeader (now (text .entry)) ⌝ }
-{
-    if text.len() < 8 {
-        return false;
-    }
-    text::same(&text[0..8], b"trace\t1\n")
-}
-
 // A refusal.
 fn refused(refusal: u64, line: usize) -> TraceRead
     ensures { λ r. ⌜ r ≡ refusedTrace refusal line ⌝ }
@@ -148,7 +138,7 @@ pub fn read_trace(text: &[u8], users: &[u64], c: Counts) -> TraceRead
     if 32768 < end {
         return refused(14, 0);
     }
-    if !has_header(text) {
+    if !text::begins_with(text, b"trace\t1\n") {
         return refused(15, 1);
     }
     let mut steps = 0;

@@ -16,14 +16,17 @@ returns : tie.Need-returns
 unfolding readPolicy
 returns c = c .unnamed .ensures ∙ policy-refused _ _ (text-long judgeLine 11 10 nothing _ (c .before .if1 .taken))
 
-has-header-requires : tie.Need-has-header-requires
-has-header-requires c κs = search needs
+slice-aggregate-begins-with : tie.Need-slice-aggregate-begins-with
+slice-aggregate-begins-with c = search needs
+
+begins-with-requires : tie.Need-begins-with-requires
+begins-with-requires c κs = search needs
 
 unnamed-requires-2 : tie.Need-unnamed-requires-2
 unnamed-requires-2 c κs = search needs
 
 returns-2 : tie.Need-returns-2
-returns-2 c = c .unnamed2 .ensures ∙ policy-refused _ _ (headless _ (c .before .before .before .if1 .left) (sym (c .before .before .has-header .ensures) ∙ not-true _ (c .before .if2 .taken)))
+returns-2 c = c .unnamed2 .ensures ∙ policy-refused _ _ (headless _ (c .before .before .before .before .if1 .left) (sym (c .before .before .begins-with .ensures) ∙ not-true _ (c .before .if2 .taken)))
 
 answer-read-requires : tie.Need-answer-read-requires
 answer-read-requires c κs = search needs
@@ -37,7 +40,8 @@ named-answer-spec =
     (tie.spec
     unnamed-requires
     returns
-    has-header-requires
+    slice-aggregate-begins-with
+    begins-with-requires
     unnamed-requires-2
     returns-2
     answer-read-requires

@@ -40,15 +40,15 @@ arrayed-is c = record {
 }
 
 -- the line that was sought ends within the text,
-inside : (c : tie.Else3 Inv-loop μ-loop) → c .before .seek .result < length (c .before .before .before .before .before .before .before .before .before .before .args .text .now)
+inside : (c : tie.Else3 Inv-loop μ-loop) → c .before .seek .result < length (c .before .before .before .before .before .before .before .before .before .before .before .args .text .now)
 inside c = omega (arith, c .before .seek .ensures, c .if3 .left)
 
 -- the measure falls with the next,
-nearer : (c : tie.Else3 Inv-loop μ-loop) → length (c .before .before .before .before .before .before .before .before .before .before .args .text .now) - (c .before .seek .result + 1) < length (c .before .before .before .before .before .before .before .before .before .before .args .text .now) - c .before .before .before .loop .at
+nearer : (c : tie.Else3 Inv-loop μ-loop) → length (c .before .before .before .before .before .before .before .before .before .before .before .args .text .now) - (c .before .seek .result + 1) < length (c .before .before .before .before .before .before .before .before .before .before .before .args .text .now) - c .before .before .before .loop .at
 nearer c = omega (arith, c .before .seek .ensures, c .before .before .loop-test .taken)
 
 -- and a line that is read is not `end`
-not-end : (c : tie.After-read-line Inv-loop μ-loop) → sameBytes (part (c .before .before .before .before .before .before .before .before .before .before .before .before .before .before .before .args .text .now) (c .before .before .before .before .before .before .before .before .loop .at) (c .before .before .before .before .before .before .seek .result)) (bytes "end") ≡ false
+not-end : (c : tie.After-read-line Inv-loop μ-loop) → sameBytes (part (c .before .before .before .before .before .before .before .before .before .before .before .before .before .before .before .before .args .text .now) (c .before .before .before .before .before .before .before .before .loop .at) (c .before .before .before .before .before .before .seek .result)) (bytes "end") ≡ false
 not-end c = sym (c .before .before .same .ensures) ∙ c .before .if4 .left
 
 -- the places of its step are in range
@@ -65,7 +65,7 @@ revoke-places c = subst (Ranged 256 256 64) (c .before .step2 .given .1) (step-p
 
 -- either way it is tried over the arrays, on one of the users
 abbrev tried-over : tie.Then6 Inv-loop μ-loop → Step → Tried
-tried-over c = triedIn (c .before .before .before .before .before .before .before .before .before .before .before .before .before .before .before .before .before .before .before .args .t4 .assigns) (c .before .before .before .before .before .before .before .before .before .before .before .before .before .before .before .before .before .before .before .args .t4 .revokes) (c .before .before .before .before .before .before .before .before .before .before .before .before .loop .persons)
+tried-over c = triedIn (c .before .before .before .before .before .before .before .before .before .before .before .before .before .before .before .before .before .before .before .before .args .t4 .assigns) (c .before .before .before .before .before .before .before .before .before .before .before .before .before .before .before .before .before .before .before .before .args .t4 .revokes) (c .before .before .before .before .before .before .before .before .before .before .before .before .loop .persons)
 
 tried-said : (c : tie.At-match2-came Inv-loop μ-loop) → c .match2 .tried ≡ tried-over (c .before) (c .before .before .before .answer .given .0 .0)
 unfolding nobody emptySet assignAt revokeAt person triedIn
@@ -80,14 +80,17 @@ stored-place c = subst (λ (t : Tried). t .place < 64) (sym (tried-said c)) (tri
 returns : tie.Need-returns Inv-loop μ-loop
 returns c = refused-is (arrayed-is (c .before .before .before)) _ (trace-long _ _ _ _ (c .if1 .taken))
 
-has-header-requires : tie.Need-has-header-requires Inv-loop μ-loop
-has-header-requires c κs = search needs
+slice-aggregate-begins-with : tie.Need-slice-aggregate-begins-with Inv-loop μ-loop
+slice-aggregate-begins-with c = search needs
+
+begins-with-requires : tie.Need-begins-with-requires Inv-loop μ-loop
+begins-with-requires c κs = search needs
 
 returns-2 : tie.Need-returns-2 Inv-loop μ-loop
-returns-2 c = refused-is (arrayed-is (c .before .before .before .before .before)) _ (headless _ _ _ _ (c .before .before .if1 .left) (sym (c .before .has-header .ensures) ∙ not-true _ (c .if2 .taken)))
+returns-2 c = refused-is (arrayed-is (c .before .before .before .before .before .before)) _ (headless _ _ _ _ (c .before .before .before .if1 .left) (sym (c .before .begins-with .ensures) ∙ not-true _ (c .if2 .taken)))
 
 loop-holds : tie.Need-loop-holds Inv-loop μ-loop
-loop-holds c = reached-start _ _ (arrayed-is (c .before .before .before .before .before .before)) (c .before .before .before .if1 .left) (sym (c .before .before .has-header .ensures) ∙ not-false _ (c .before .if2 .left))
+loop-holds c = reached-start _ _ (arrayed-is (c .before .before .before .before .before .before .before)) (c .before .before .before .before .if1 .left) (sym (c .before .before .begins-with .ensures) ∙ not-false _ (c .before .if2 .left))
 
 seek-requires : tie.Need-seek-requires Inv-loop μ-loop
 seek-requires c κs = (c .before .loop .inv) .after .on .within
@@ -134,7 +137,7 @@ returns-5 c =
     reached-last (line .before .before .before .loop .inv) (line .before .seek .ensures) (inside line) (sym (c .before .before .before .before .before .same .ensures) ∙ c .before .before .before .before .if4 .taken) (c .before .before .before .if5 .left) (c .before .first-bad .ensures) (c .ending .ensures)
 
 read-line-requires : tie.Need-read-line-requires Inv-loop μ-loop
-read-line-requires c κs = c .before .before .before .before .before .before .before .before .before .before .before .before .before .before .pre .named
+read-line-requires c κs = c .before .before .before .before .before .before .before .before .before .before .before .before .before .before .before .pre .named
 
 enum-known-answer : tie.Need-enum-known-answer Inv-loop μ-loop
 enum-known-answer c = search needs
@@ -242,7 +245,8 @@ run-trace-spec =
     Inv-loop
     μ-loop
     returns
-    has-header-requires
+    slice-aggregate-begins-with
+    begins-with-requires
     returns-2
     loop-holds
     seek-requires

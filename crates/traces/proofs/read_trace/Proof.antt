@@ -19,7 +19,7 @@ abbrev μ-loop : tie.MeasureT-loop
 μ-loop text users c end steps₀ at₀ number₀ t12 steps at number = length text - at
 
 -- the line that was sought ends within the text
-inside : (c : tie.Else3 Inv-loop μ-loop) → c .before .seek .result < length (c .before .before .before .before .before .before .before .before .before .args .text .now)
+inside : (c : tie.Else3 Inv-loop μ-loop) → c .before .seek .result < length (c .before .before .before .before .before .before .before .before .before .before .args .text .now)
 inside c = omega (arith, c .before .seek .ensures, c .if3 .left)
 
 refused-requires : tie.Need-refused-requires Inv-loop μ-loop
@@ -28,17 +28,20 @@ refused-requires c κs = search needs
 returns : tie.Need-returns Inv-loop μ-loop
 returns c = c .refused .ensures ∙ refused-told _ _ _ _ (trace-long _ _ _ _ (c .before .if1 .taken))
 
-has-header-requires : tie.Need-has-header-requires Inv-loop μ-loop
-has-header-requires c κs = search needs
+slice-aggregate-begins-with : tie.Need-slice-aggregate-begins-with Inv-loop μ-loop
+slice-aggregate-begins-with c = search needs
+
+begins-with-requires : tie.Need-begins-with-requires Inv-loop μ-loop
+begins-with-requires c κs = search needs
 
 refused-requires-2 : tie.Need-refused-requires-2 Inv-loop μ-loop
 refused-requires-2 c κs = search needs
 
 returns-2 : tie.Need-returns-2 Inv-loop μ-loop
-returns-2 c = c .refused2 .ensures ∙ refused-told _ _ _ _ (headless _ _ _ _ (c .before .before .before .if1 .left) (sym (c .before .before .has-header .ensures) ∙ not-true _ (c .before .if2 .taken)))
+returns-2 c = c .refused2 .ensures ∙ refused-told _ _ _ _ (headless _ _ _ _ (c .before .before .before .before .if1 .left) (sym (c .before .before .begins-with .ensures) ∙ not-true _ (c .before .if2 .taken)))
 
 loop-holds : tie.Need-loop-holds Inv-loop μ-loop
-loop-holds c = reached-start _ _ _ _ (c .before .before .if1 .left) (sym (c .before .has-header .ensures) ∙ not-false _ (c .if2 .left))
+loop-holds c = reached-start _ _ _ _ (c .before .before .before .if1 .left) (sym (c .before .begins-with .ensures) ∙ not-false _ (c .if2 .left))
 
 seek-requires : tie.Need-seek-requires Inv-loop μ-loop
 seek-requires c κs = (c .before .loop .inv) .after .on .within
@@ -129,7 +132,8 @@ read-trace-spec =
     μ-loop
     refused-requires
     returns
-    has-header-requires
+    slice-aggregate-begins-with
+    begins-with-requires
     refused-requires-2
     returns-2
     loop-holds
