@@ -10,7 +10,7 @@ use Rattle.reading.specs.Texts.{Reading, read, refused}
 use Rattle.lines.specs.declared.Counts.{Counts}
 use Rattle.reading.specs.Policy.{Said, countsOf, readPolicy}
 use Rattle.typings.specs.TypingText.{Typed, readTyping, tableOf}
-use Rattle.places.specs.Place.{isTyping}
+use Rattle.typings.specs.Kind.{isTyping}
 use Rattle.judging.specs.declared.TypingVerdict.{TypingVerdict}
 use Rattle.judging.specs.Verdict.{Subject, subjectOf, judgedTyping, partNumber, pinnedNames}
 use Rattle.running.specs.declared.TraceVerdict.{TraceVerdict}

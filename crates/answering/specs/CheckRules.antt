@@ -12,7 +12,7 @@ use Rattle.reading.specs.PolicyExact.{PolicyRefusal}
 use Rattle.typings.specs.TypingText.{Typed, readTyping, tableOf}
 use Rattle.typings.specs.Exact.{TypingRefusal}
 use Rattle.traces.specs.Exact.{TraceRefusal}
-use Rattle.places.specs.Place.{isTyping}
+use Rattle.typings.specs.Kind.{isTyping}
 use Rattle.judging.specs.Verdict.{pinnedNames}
 
 -- Both texts are read, the evidence as a typing, and so much holds of them.

@@ -13,7 +13,7 @@ use Rattle.reading.specs.Texts.{read}
 use Rattle.reading.specs.Policy.{Said, policyOf, countsOf, readPolicy}
 use Rattle.typings.specs.TypingText.{Typed, readTyping, tableOf}
 use Rattle.traces.specs.TraceText.{Traced, readTrace}
-use Rattle.places.specs.Place.{isTyping}
+use Rattle.typings.specs.Kind.{isTyping}
 use Rattle.judging.specs.declared.Part.{Part}
 use Rattle.judging.specs.declared.TypingVerdict.{TypingVerdict}
 use Rattle.judging.specs.Exact.{FirstFailure}

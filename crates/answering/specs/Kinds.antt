@@ -21,7 +21,7 @@ use Rattle.typings.specs.TypingText.{Typed, untyped, readTyping}
 use Rattle.typings.specs.TypingText as typings
 use Rattle.traces.specs.TraceText.{Traced, untraced, readTrace}
 use Rattle.traces.specs.TraceText as traces
-use Rattle.places.specs.Place.{isTyping}
+use Rattle.typings.specs.Kind.{isTyping}
 
 -- ---- the first line of a text that is read
 

@@ -18,7 +18,7 @@ use Rattle.reading.specs.Told.{Told, counts-laid, roles-laid, users-laid, peopl
 use Rattle.typings.specs.declared.TypingRead.{TypingRead}
 use Rattle.typings.specs.TypingText.{Typed, readTyping, tableOf, typingRead}
 use Rattle.typings.specs.TypingTold.{typing-told, typing-untold}
-use Rattle.places.specs.Place.{isTyping}
+use Rattle.typings.specs.Kind.{isTyping}
 use Rattle.judging.specs.Layout.{subject-laid}
 use Rattle.judging.specs.declared.Part.{Part}
 use Rattle.judging.specs.declared.TypingVerdict.{TypingVerdict}

@@ -6,7 +6,7 @@ use mathlib.Core.Path.{_≡_, refl, sym, ap, subst, _∙_}
 use Rattle.reading.specs.Texts.{Reading, read, refused}
 use Rattle.reading.specs.Policy.{Said, countsOf, readPolicy}
 use Rattle.typings.specs.TypingText.{Typed, readTyping, tableOf}
-use Rattle.places.specs.Place.{isTyping}
+use Rattle.typings.specs.Kind.{isTyping}
 use Rattle.judging.specs.Verdict.{subjectOf, typingVerdict}
 use Rattle.running.specs.Verdict.{traceVerdict}
 use Rattle.answering.specs.declared.Answer.{Answer}

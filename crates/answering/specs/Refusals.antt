@@ -1,36 +1,27 @@
--- When `check` refuses, with which number and at which line, and that the bad line is looked for where the answer says.
-use Prim.Native.Nat.{ℕ, _-_, _≤_}
-use mathlib.Core.Bool.{Bool, true, false, cond}
+-- When `check` refuses, with which number and at which line.
+use Prim.Native.Nat.{ℕ, _≤_}
+use mathlib.Core.Bool.{Bool}
 use mathlib.Core.List.{List}
 use mathlib.Core.Logic.{_↔_}
-use mathlib.Core.Path.{_≡_, refl, ap, subst, _∙_}
-use lib.Dec.{eqb, lit≤}
+use mathlib.Core.Path.{_≡_, ap, subst, _∙_}
+use lib.Dec.{lit≤}
 use lib.ListN.{length}
 use native.Mathlib.Omega.{arith}
-use Rattle.reading.specs.Texts.{Judged, Reading, read, refused}
-use Rattle.reading.specs.Policy.{Said, countsOf, readPolicy}
+use Rattle.reading.specs.Texts.{Judged}
+use Rattle.reading.specs.Policy.{countsOf}
 use Rattle.reading.specs.PolicyExact.{PolicyRefusal, policy-refusal-exact}
 use Rattle.reading.specs.Evidence.{EvidenceRefusal}
-use Rattle.typings.specs.TypingText.{readTyping, tableOf}
+use Rattle.typings.specs.TypingText.{tableOf}
 use Rattle.typings.specs.Exact.{typing-refusal-exact}
-use Rattle.traces.specs.TraceText.{Traced, readTrace}
 use Rattle.traces.specs.Exact.{trace-refusal-exact}
-use Rattle.places.specs.declared.Refusal.{Refusal}
-use Rattle.places.specs.Place.{isTyping, told, refusedOver, refusalAfter, refusalAs, refusalOf, badPlace, badLine}
-use Rattle.places.specs.BadLines.{BadAt}
-use Rattle.places.specs.BadLineExact.{bad-line-exact}
-use Rattle.steps.specs.declared.Found.{Found}
-use Rattle.steps.specs.Tests.{firstBad}
-use Rattle.steps.specs.Traces.{Ran, broken, ran, runOf}
 use Rattle.judging.specs.declared.TypingVerdict.{TypingVerdict}
 use Rattle.judging.specs.Verdict.{typingVerdict}
 use Rattle.running.specs.declared.TraceVerdict.{TraceVerdict}
-use Rattle.running.specs.Verdict.{lastVerdict, ranVerdict, readVerdict, traceVerdict}
+use Rattle.running.specs.Verdict.{traceVerdict}
 use Rattle.running.specs.Exact.{run-refused}
 use Rattle.answering.specs.declared.Answer.{Answer}
 use Rattle.answering.specs.Answers.{judgedAnswer, traceAnswer, answerOf}
 use Rattle.answering.specs.CheckRules.{Refused, of-policy, of-typing, of-trace}
-use Rattle.answering.specs.Kinds.{typing-kind}
 use Rattle.answering.specs.Outcomes.{Outcome, no-policy, no-typing, typed, traced, kind-answer, policy-refused, typing-refused, outcome}
 
 -- ---- the numbers of refusals
@@ -101,57 +92,3 @@ module _ (policy evidence : List ℕ) where
       go (of-policy refusal) = policy-number refusal
       go (of-typing reads kind refusal) = evidence-number refusal
       go (of-trace reads kind refusal) = evidence-number refusal
-
--- ---- where the bad line is looked for
-
--- The number and line of an answer that is a refusal; 0 and 0 of any other.
-unfoldable pub refusalIn : Answer → Refusal
-refusalIn (Answer.Safe roles assigns revokes goals pinned) = record { number = 0; line = 0 }
-refusalIn (Answer.Attacked steps user goal) = record { number = 0; line = 0 }
-refusalIn (Answer.Unproved part number) = record { number = 0; line = 0 }
-refusalIn (Answer.Broken step) = record { number = 0; line = 0 }
-refusalIn (Answer.Short steps) = record { number = 0; line = 0 }
-refusalIn (Answer.Refused number line) = record { number = number; line = line }
-
-module _ (policy evidence : List ℕ) where
-  -- the refusal where the policy is read, by the kind of the evidence
-  kind-refusal : {s : Said} {b : Bool} → readPolicy policy ≡ read s → isTyping evidence ≡ b
-      → refusalOf policy evidence ≡ cond b (told (readTyping (s .roles) evidence)) (told (readTrace (length (s .assigns)) (length (s .revokes)) (s .users) evidence))
-  unfolding refusalAs refusalAfter refusedOver
-  kind-refusal {s} reads kind =
-      ap (λ (r : Reading Said). refusalAfter r (isTyping evidence) evidence) reads
-      ∙ ap (λ (b : Bool). cond b (told (readTyping (s .roles) evidence)) (told (readTrace (length (s .assigns)) (length (s .revokes)) (s .users) evidence))) kind
-
-  -- a trace is refused as its verdict says
-  trace-refusal : (s : Said) (r : Reading Traced) → told r ≡ refusalIn (traceAnswer (readVerdict s r))
-  unfolding told refusalIn traceAnswer readVerdict ranVerdict lastVerdict
-  trace-refusal s (refused number line) = refl
-  trace-refusal s (read t) = ranned (runOf (s .assigns) (s .revokes) (s .holdings) (t .steps))
-    where
-      found : (b : Bool) (f : Found) → record { number = 0; line = 0 } ≡ refusalIn (traceAnswer (cond b (TraceVerdict.Short (length (t .steps))) (TraceVerdict.Attacked (length (t .steps)) (f .user - 1) (f .goal))))
-      found true f = refl
-      found false f = refl
-
-      ranned : (x : Ran) → record { number = 0; line = 0 } ≡ refusalIn (traceAnswer (ranVerdict (length (t .steps)) (s .goals) x))
-      ranned (broken number) = refl
-      ranned (ran last) = found (eqb (firstBad last (s .goals) .user) 0) (firstBad last (s .goals))
-
-  told-place : {a : Answer} → Outcome policy evidence a → refusalOf policy evidence ≡ refusalIn a
-  unfolding refusalAs refusalAfter refusalIn told judgedAnswer traceVerdict
-  told-place (no-policy reads) = ap (λ (r : Reading Said). refusalAfter r (isTyping evidence) evidence) reads
-  told-place (no-typing reads kind over) = kind-refusal reads kind ∙ ap told over
-  told-place (typed {s = s} {t = t} reads over) = kind-refusal reads (typing-kind (s .roles) evidence over) ∙ ap told over ∙ go (typingVerdict s (tableOf t))
-    where
-      go : (v : TypingVerdict) → record { number = 0; line = 0 } ≡ refusalIn (judgedAnswer (countsOf s) (tableOf t) v)
-      go TypingVerdict.Accepted = refl
-      go (TypingVerdict.Fails part number) = refl
-  told-place (traced {s = s} reads kind) = kind-refusal reads kind ∙ trace-refusal s (readTrace (length (s .assigns)) (length (s .revokes)) (s .users) evidence)
-
-  -- The bad line is looked for at the number and line of the answer, and nowhere for an answer that is no refusal.
-  pub refused-place : refusalOf policy evidence ≡ refusalIn (answerOf policy evidence)
-  refused-place = told-place (outcome policy evidence)
-
-  -- The bad line is that line of that text by which the answer refuses, and the empty part at the policy's start for a missing `end`
-  -- and for every other answer.
-  pub bad-line-told : BadAt policy evidence (refusalIn (answerOf policy evidence) .number) (refusalIn (answerOf policy evidence) .line) (badPlace policy evidence) (badLine policy evidence)
-  bad-line-told = subst (λ (r : Refusal). BadAt policy evidence (r .number) (r .line) (badPlace policy evidence) (badLine policy evidence)) refused-place (bad-line-exact policy evidence)

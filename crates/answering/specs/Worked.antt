@@ -20,7 +20,7 @@ use Rattle.typings.specs.TypingLines as typing
 use Rattle.typings.specs.TypingText as typings
 use Rattle.traces.specs.TraceLines as trace
 use Rattle.traces.specs.TraceText as traces
-use Rattle.places.specs.Place.{isTyping}
+use Rattle.typings.specs.Kind.{isTyping}
 use Rattle.steps.specs.First.{first, firstFrom}
 use Rattle.steps.specs.Tests.{mayAssign, mayRevoke, withTarget, withoutTarget, lowestGoal, ownGoal, badPerson, goalOf, firstBad}
 use Rattle.steps.specs.Traces.{assignAt, revokeAt, possible, after, later, runOf}

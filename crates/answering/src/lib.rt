@@ -11,12 +11,12 @@ use judging::judge_typing;
 use judging::pinned;
 use lines::Counts;
 use model::Typing;
-use places::is_typing;
 use reading::directory::read_directory;
 use reading::policy::read_rules;
 use running::TraceVerdict;
 use running::run_trace;
 use tables::Name;
+use typings::kind::is_typing;
 use typings::read_typing;
 
 // The answer to two texts.

@@ -15,6 +15,7 @@ use Rattle.reading.specs.Evidence as evidences
 use Rattle.reading.specs.Policy.{Said, readPolicy}
 use Rattle.reading.specs.PolicyExact.{PolicyRefusal, policy-refusal-exact}
 use Rattle.reading.specs.PolicyExact as policies
+use Rattle.typings.specs.Kind.{isTyping}
 use Rattle.typings.specs.TypingText.{readTyping}
 use Rattle.typings.specs.Exact.{typing-refusal-exact}
 use Rattle.traces.specs.TraceText.{readTrace}
@@ -22,8 +23,8 @@ use Rattle.traces.specs.Exact.{trace-refusal-exact}
 use Rattle.places.specs.declared.Refusal.{Refusal}
 use Rattle.places.specs.declared.Span.{Span}
 use Rattle.places.specs.declared.BadPlace.{BadPlace}
-use Rattle.places.specs.Place.{isTyping, told, refusedOver, refusalAfter, refusalAs, refusalOf, typingRefusalOf, noSpan, badSpan, placeOf, bytesAt, badPlace, badLine, badTypingPlace, badTypingLine}
-use Rattle.places.specs.PlaceLaws.{bad-none, bad-policy, bad-evidence}
+use Rattle.places.specs.Place.{told, refusalAfter, refusalAs, refusalOf, typingRefusalOf, noSpan, badSpan, placeOf, bytesAt, badPlace, badLine, badTypingPlace, badTypingLine}
+use Rattle.places.specs.PlaceLaws.{bad-none, bad-policy, bad-evidence, place-told}
 use Rattle.places.specs.BadLines.{lineAt, startOf, HasLine, PastLast, OfPolicy, OfEvidence, OfNeither, linePlace, noPlace, BadAt}
 use Rattle.places.specs.BadLines as bad
 use Rattle.places.specs.LinePlaces.{some-piece, line-found, past-lost}
@@ -64,8 +65,7 @@ module _ (policy evidence : List ℕ) where
 
   -- the place, by the span
   place-by : (r : Refusal) {s : Span} → badSpan policy evidence r ≡ s → placeOf policy evidence r ≡ record { evidence = s .found && leb 14 (r .number); from = s .from; to = s .to }
-  unfolding placeOf
-  place-by r span = ap (λ (s : Span). record { evidence = s .found && leb 14 (r .number); from = s .from; to = s .to }) span
+  place-by r span = sym (place-told policy evidence r (sym span))
 
   nowhere : (r : Refusal) → badSpan policy evidence r ≡ noSpan → placeOf policy evidence r ≡ noPlace
   unfolding noSpan noPlace
@@ -122,7 +122,7 @@ module _ (policy evidence : List ℕ) where
 
   -- read as a typing or as a trace
   bad-as : (typing : Bool) → Bad (refusalAs typing policy evidence)
-  unfolding refusalAs refusalAfter refusedOver
+  unfolding refusalAs refusalAfter
   bad-as typing = go (readPolicy policy) refl typing
     where
       go : (r : Reading Said) → readPolicy policy ≡ r → (typing : Bool) → Bad (refusalAfter r typing evidence)

@@ -5,33 +5,24 @@ use mathlib.Core.List.{List}
 use lib.Dec.{ltb, leb, eqb}
 use lib.ListN.{length, drop}
 use Rattle.bytes.specs.Bytes.{indexOf}
-use Rattle.tables.specs.declared.Name.{Name}
-use Rattle.text.specs.Forms.{bytes}
-use Rattle.text.specs.Pieces.{part, sameBytes}
+use Rattle.text.specs.Pieces.{part}
 use Rattle.reading.specs.Texts.{Reading, read, refused}
 use Rattle.reading.specs.Policy.{Said, readPolicy}
 use Rattle.places.specs.declared.Refusal.{Refusal}
 use Rattle.places.specs.declared.Span.{Span}
 use Rattle.places.specs.declared.BadPlace.{BadPlace}
+use Rattle.typings.specs.Kind.{isTyping}
 use Rattle.typings.specs.TypingText.{readTyping}
 use Rattle.traces.specs.TraceText.{readTrace}
-
--- Evidence whose first line is a typing's header is a typing; any other is read as a trace.
-unfoldable pub isTyping : List ℕ → Bool
-isTyping text = sameBytes (part text 0 (indexOf 10 text)) (bytes "typing\t1")
 
 -- a refusal's number and line, 0 and 0 for a text that is read
 unfoldable pub told : {S : Type 0} → Reading S → Refusal
 told (read s) = record { number = 0; line = 0 }
 told (refused number line) = record { number = number; line = line }
 
--- the refusal of evidence over a policy's counts and names, read as a typing or as a trace
-unfoldable pub refusedOver : (typing : Bool) (assigns revokes : ℕ) (roles users : List Name) → List ℕ → Refusal
-refusedOver typing assigns revokes roles users text = cond typing (told (readTyping roles text)) (told (readTrace assigns revokes users text))
-
--- Order: policy length, policy lines, evidence length, evidence lines.
+-- Order: policy length, policy lines, evidence length, evidence lines; the evidence is read as a typing or as a trace.
 unfoldable pub refusalAfter : Reading Said → (typing : Bool) → List ℕ → Refusal
-refusalAfter (read s) typing evidence = refusedOver typing (length (s .assigns)) (length (s .revokes)) (s .roles) (s .users) evidence
+refusalAfter (read s) typing evidence = cond typing (told (readTyping (s .roles) evidence)) (told (readTrace (length (s .assigns)) (length (s .revokes)) (s .users) evidence))
 refusalAfter (refused number line) typing evidence = record { number = number; line = line }
 
 -- The refusal of a policy and a piece of evidence, read as a typing or as a trace.

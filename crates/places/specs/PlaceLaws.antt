@@ -1,8 +1,8 @@
--- How a reader finds the refusal again and the bad line: the laws of their definitions.
+-- The refusal of two texts and the bad line: the laws of their definitions.
 use Prim.Native.Nat.{ℕ, zero, suc, _+_, _-_, _≤_, _<_, zero-le}
 use mathlib.Core.Bool.{Bool, true, false, cond, _&&_, and-eq-true-iff, and-true, true≢false}
 use mathlib.Core.List.{List, [], _∷_}
-use mathlib.Core.Path.{_≡_, refl, sym, ap, ap₂, subst, subst⁻¹, _∙_}
+use mathlib.Core.Path.{_≡_, refl, sym, ap, subst, subst⁻¹, _∙_}
 use borrow.Author.Tests.{lt-ltb, le-ltb, ltb-true, ltb-false, leb-true, le-leb, eq-eqb, ne-eqb}
 use lib.Dec.{ltb, leb, eqb}
 use lib.ListN.{length, drop, length-drop}
@@ -12,39 +12,17 @@ use Rattle.tables.specs.declared.Name.{Name}
 use Rattle.text.specs.Pieces.{part, Sought}
 use Rattle.reading.specs.Texts.{Reading, read, refused}
 use Rattle.tables.specs.Names.{rows}
-use Rattle.lines.specs.declared.Counts.{Counts}
 use Rattle.reading.specs.declared.directory.Directory.{Directory}
 use Rattle.reading.specs.declared.policy.Rules.{Rules}
-use Rattle.reading.specs.Policy.{Said, countsOf, readPolicy}
-use Rattle.reading.specs.Told.{Told, counts-laid, roles-laid, users-laid}
+use Rattle.reading.specs.Policy.{Said, readPolicy}
+use Rattle.reading.specs.Told.{Told, roles-laid}
 use Rattle.typings.specs.declared.TypingRead.{TypingRead}
-use Rattle.traces.specs.declared.TraceRead.{TraceRead}
 use Rattle.places.specs.declared.Refusal.{Refusal}
 use Rattle.places.specs.declared.Span.{Span}
 use Rattle.places.specs.declared.BadPlace.{BadPlace}
-use Rattle.typings.specs.TypingText.{Typed, readTyping, refusedTyping, answerOf as typingAnswer, typingRead}
-use Rattle.traces.specs.TraceText.{Traced, readTrace, refusedTrace, answerOf as traceAnswer, traceRead}
-use Rattle.places.specs.Place.{told, refusedOver, refusalAfter, refusalAs, typingRefusalOf, noSpan, spanOf, badSpan, placeOf, bytesAt, beginsAt}
-
--- the refusal that a reader's record has
-typing-told : (r : Reading Typed) → record { number = typingAnswer r .refusal; line = typingAnswer r .line } ≡ told r
-unfolding typingAnswer refusedTyping told
-typing-told (read s) = refl
-typing-told (refused k n) = refl
-
-trace-told : (r : Reading Traced) → record { number = traceAnswer r .refusal; line = traceAnswer r .line } ≡ told r
-unfolding traceAnswer refusedTrace told
-trace-told (read s) = refl
-trace-told (refused k n) = refl
-
-module _ (assigns revokes : ℕ) (roles users : List Name) (text : List ℕ) {typing : Bool} where
-  pub over-typing : {T : TypingRead} → typing ≡ true → T ≡ typingRead roles text → record { number = T .refusal; line = T .line } ≡ refusedOver typing assigns revokes roles users text
-  unfolding refusedOver typingRead
-  over-typing is given = (λ i. record { number = given i .refusal; line = given i .line }) ∙ typing-told (readTyping roles text) ∙ rw is
-
-  pub over-trace : {T : TraceRead} → typing ≡ false → T ≡ traceRead assigns revokes users text → record { number = T .refusal; line = T .line } ≡ refusedOver typing assigns revokes roles users text
-  unfolding refusedOver traceRead
-  over-trace is given = (λ i. record { number = given i .refusal; line = given i .line }) ∙ trace-told (readTrace assigns revokes users text) ∙ rw is
+use Rattle.typings.specs.TypingText.{Typed, readTyping, refusedTyping, answerOf, typingRead}
+use Rattle.traces.specs.TraceText.{readTrace}
+use Rattle.places.specs.Place.{told, refusalAfter, refusalAs, typingRefusalOf, noSpan, spanOf, badSpan, placeOf, bytesAt, beginsAt}
 
 module _ (typing : Bool) (policy evidence : List ℕ) where
   -- a policy that is refused decides, and one that is read leaves it to the evidence
@@ -52,23 +30,30 @@ module _ (typing : Bool) (policy evidence : List ℕ) where
   unfolding refusalAs refusalAfter
   after-refused is = sym (ap (λ (r : Reading Said). refusalAfter r typing evidence) is)
 
-  pub after-read : {s : Said} → readPolicy policy ≡ read s → refusedOver typing (length (s .assigns)) (length (s .revokes)) (s .roles) (s .users) evidence ≡ refusalAs typing policy evidence
+  pub after-read : {s : Said} → readPolicy policy ≡ read s
+      → cond typing (told (readTyping (s .roles) evidence)) (told (readTrace (length (s .assigns)) (length (s .revokes)) (s .users) evidence)) ≡ refusalAs typing policy evidence
   unfolding refusalAs refusalAfter
   after-read is = sym (ap (λ (r : Reading Said). refusalAfter r typing evidence) is)
 
 -- the refusal of a text where a typing is wanted
 pub typing-refused : (policy typing : List ℕ) {s : Said} {number line : ℕ} → readPolicy policy ≡ read s → readTyping (s .roles) typing ≡ refused number line → typingRefusalOf policy typing ≡ record { number = number; line = line }
-unfolding refusedOver told
+unfolding told
 typing-refused policy typing reads is = sym (after-read true policy typing reads) ∙ ap told is
 
--- the evidence over the records of a policy that is read
-pub over-told : {policy : List ℕ} {D : Directory} {R : Rules} → Told policy D R → (typing : Bool) (evidence : List ℕ)
-    → refusedOver typing (R .counts .assigns) (R .counts .revokes) (rows (R .counts .roles) (D .roles)) (rows (R .counts .users) (D .users)) evidence ≡ refusalAs typing policy evidence
-unfolding countsOf
-over-told {policy} {D} {R} t typing evidence =
-    ap₂ (λ (rs us : List Name). refusedOver typing (R .counts .assigns) (R .counts .revokes) rs us evidence) (roles-laid (t .laid)) (users-laid (t .laid))
-    ∙ ap (λ (c : Counts). refusedOver typing (c .assigns) (c .revokes) (t .said .roles) (t .said .users) evidence) (counts-laid (t .laid))
-    ∙ after-read typing policy evidence (t .is)
+-- as the record of its reader has it, over the records of a policy that is read
+typing-told : (r : Reading Typed) → record { number = answerOf r .refusal; line = answerOf r .line } ≡ told r
+unfolding answerOf refusedTyping told
+typing-told (read s) = refl
+typing-told (refused k n) = refl
+
+pub over-told : {policy : List ℕ} {D : Directory} {R : Rules} → Told policy D R → (typing : List ℕ) {T : TypingRead} → T ≡ typingRead (rows (R .counts .roles) (D .roles)) typing
+    → record { number = T .refusal; line = T .line } ≡ typingRefusalOf policy typing
+unfolding typingRead
+over-told {policy} {D} {R} t typing given =
+    (λ i. record { number = given i .refusal; line = given i .line })
+    ∙ typing-told (readTyping (rows (R .counts .roles) (D .roles)) typing)
+    ∙ ap (λ (names : List Name). told (readTyping names typing)) (roles-laid (t .laid))
+    ∙ after-read true policy typing (t .is)
 
 -- ---- going from line to line
 
@@ -190,11 +175,9 @@ bad-evidence policy evidence r some high = rw (ne-eqb (r .line) 0 some, le-ltb (
 
 -- the place of a refusal
 module _ (policy evidence : List ℕ) (q : Refusal) where
-  pub place-told : {r : Refusal} {s : Span} → r ≡ q → s ≡ badSpan policy evidence r → record { evidence = s .found && leb 14 (r .number); from = s .from; to = s .to } ≡ placeOf policy evidence q
+  pub place-told : {s : Span} → s ≡ badSpan policy evidence q → record { evidence = s .found && leb 14 (q .number); from = s .from; to = s .to } ≡ placeOf policy evidence q
   unfolding placeOf
-  place-told {r} {s} is span =
-      let same = span ∙ ap (badSpan policy evidence) is in
-      λ i. record { evidence = same i .found && leb 14 (is i .number); from = same i .from; to = same i .to }
+  place-told span = ap (λ (s : Span). record { evidence = s .found && leb 14 (q .number); from = s .from; to = s .to }) span
 
   module _ {place : BadPlace} (is : place ≡ placeOf policy evidence q) where
     -- it lies inside the text that it is told for

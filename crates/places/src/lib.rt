@@ -1,14 +1,13 @@
-// The refusal of two texts, found again, and the bad line as a part of one of them.
+// The refusal of two texts, and the bad line as a part of one of them.
 ghost use denote.Ref.{ptr};
 ghost use mathlib.Core.Path.{_≡_};
-ghost use Prim.Native.Nat.{_*_, _-_, _≤_};
-ghost use lib.ListN.{length};
-ghost use Rattle.tables.specs.Names.{rows};
-ghost use Rattle.places.specs.Place.{isTyping, refusedOver, refusalAs, noSpan, spanOf, badSpan, placeOf, bytesAt, badPlace, badLine, badTypingPlace, badTypingLine, beginsAt};
-use lines::Counts;
+ghost use Prim.Native.Nat.{_-_};
+ghost use Rattle.places.specs.Place.{refusalOf, typingRefusalOf, noSpan, spanOf, badSpan, placeOf, bytesAt, badPlace, badLine, badTypingPlace, badTypingLine, beginsAt};
+ghost use Rattle.places.specs.Answered.{refusalIn};
+use answering::Answer;
+use answering::check;
 use reading::directory::read_directory;
 use reading::policy::read_rules;
-use traces::read_trace;
 use typings::read_typing;
 
 // A refusal's number and line, both 0 where the texts are read.
@@ -31,44 +30,26 @@ pub struct BadPlace {
     pub to: usize,
 }
 
-// Whether the first line is a typing's header: a look at the first nine bytes.
-pub fn is_typing(text: &[u8]) -> bool
-    ensures { λ r. ⌜ r ≡ isTyping (now (text .entry)) ⌝ }
+// The number and line of an answer that is a refusal; 0 and 0 of any other.
+fn refusal_in(answer: Answer) -> Refusal
+    ensures { λ r. ⌜ r ≡ refusalIn answer ⌝ }
 {
-    if text.len() < 9 {
-        return text::same(text, b"typing\t1");
-    }
-    text::same(&text[0..9], b"typing\t1\n")
-}
-
-// The refusal of a piece of evidence, read as a typing or as a trace, over the names and counts of a policy.
-fn evidence_refusal<'a>(
-    text: &[u8],
-    typing: bool,
-    roles: &'a [u64],
-    users: &'a [u64],
-    c: Counts,
-) -> Refusal
-    requires { ⌜ (4 * c .roles ≤ length (now roles)) × (c .roles ≤ 128) × (4 * c .users ≤ length (now users)) ⌝ }
-    ensures { λ r. ⌜ r ≡ refusedOver typing (c .assigns) (c .revokes) (rows (c .roles) (now (roles .entry))) (rows (c .users) (now (users .entry))) (now (text .entry)) ⌝ }
-{
-    if typing {
-        let t = read_typing(text, roles, c.roles);
-        return Refusal {
-            number: t.refusal,
-            line: t.line,
-        };
-    }
-    let t = read_trace(text, users, c);
-    Refusal {
-        number: t.refusal,
-        line: t.line,
+    match answer {
+        Answer::Refused(number, line) => Refusal { number, line },
+        _ => Refusal { number: 0, line: 0 },
     }
 }
 
-// The refusal of a policy and a piece of evidence, read as a typing or as a trace.
-fn refusal_as(policy: &[u8], evidence: &[u8], typing: bool) -> Refusal
-    ensures { λ r. ⌜ r ≡ refusalAs typing (now (policy .entry)) (now (evidence .entry)) ⌝ }
+// The refusal of a policy and a piece of evidence: that of the answer to them.
+fn refusal_of(policy: &[u8], evidence: &[u8]) -> Refusal
+    ensures { λ r. ⌜ r ≡ refusalOf (now (policy .entry)) (now (evidence .entry)) ⌝ }
+{
+    refusal_in(check(policy, evidence))
+}
+
+// The refusal of a policy and a text where a typing is wanted.
+fn typing_refusal_of(policy: &[u8], typing: &[u8]) -> Refusal
+    ensures { λ r. ⌜ r ≡ typingRefusalOf (now (policy .entry)) (now (typing .entry)) ⌝ }
 {
     let d = read_directory(policy);
     if d.refusal != 0 {
@@ -84,7 +65,12 @@ fn refusal_as(policy: &[u8], evidence: &[u8], typing: bool) -> Refusal
             line: r.line,
         };
     }
-    evidence_refusal(evidence, typing, &d.roles, &d.users, r.counts)
+    let c = r.counts;
+    let t = read_typing(typing, &d.roles, c.roles);
+    Refusal {
+        number: t.refusal,
+        line: t.line,
+    }
 }
 
 // No line.
@@ -137,11 +123,10 @@ fn bad_span(policy: &[u8], evidence: &[u8], r: Refusal) -> Span
     line_span(evidence, r.line)
 }
 
-// Which text the bad line stands in, and where: nowhere, at the policy's start, where no line is bad.
-fn place_as(policy: &[u8], evidence: &[u8], typing: bool) -> BadPlace
-    ensures { λ r. ⌜ r ≡ placeOf (now (policy .entry)) (now (evidence .entry)) (refusalAs typing (now (policy .entry)) (now (evidence .entry))) ⌝ }
+// Which text the bad line of a refusal stands in, and where: nowhere, at the policy's start, where no line is bad.
+fn place_of(policy: &[u8], evidence: &[u8], r: Refusal) -> BadPlace
+    ensures { λ place. ⌜ place ≡ placeOf (now (policy .entry)) (now (evidence .entry)) r ⌝ }
 {
-    let r = refusal_as(policy, evidence, typing);
     let s = bad_span(policy, evidence, r);
     BadPlace {
         evidence: s.found & (14 <= r.number),
@@ -154,22 +139,22 @@ fn place_as(policy: &[u8], evidence: &[u8], typing: bool) -> BadPlace
 pub fn bad_place(policy: &[u8], evidence: &[u8]) -> BadPlace
     ensures { λ r. ⌜ r ≡ badPlace (now (policy .entry)) (now (evidence .entry)) ⌝ }
 {
-    place_as(policy, evidence, is_typing(evidence))
+    place_of(policy, evidence, refusal_of(policy, evidence))
 }
 
 // The place of the bad line of a policy and a text where a typing is wanted.
 pub fn bad_typing_place(policy: &[u8], typing: &[u8]) -> BadPlace
     ensures { λ r. ⌜ r ≡ badTypingPlace (now (policy .entry)) (now (typing .entry)) ⌝ }
 {
-    place_as(policy, typing, true)
+    place_of(policy, typing, typing_refusal_of(policy, typing))
 }
 
-// The part of one of two texts at the place of their bad line.
-fn line_as<'a>(policy: &'a [u8], evidence: &'a [u8], typing: bool) -> &'a [u8]
-    ensures { λ r. ⌜ now r ≡ bytesAt (now (policy .entry)) (now (evidence .entry)) (placeOf (now (policy .entry)) (now (evidence .entry)) (refusalAs typing (now (policy .entry)) (now (evidence .entry)))) ⌝ }
-    ensures { λ r. ⌜ ptr r ≡ beginsAt (ptr (policy .entry)) (ptr (evidence .entry)) (placeOf (now (policy .entry)) (now (evidence .entry)) (refusalAs typing (now (policy .entry)) (now (evidence .entry)))) ⌝ }
+// The part of one of two texts at the place of the bad line of a refusal.
+fn line_of<'a>(policy: &'a [u8], evidence: &'a [u8], r: Refusal) -> &'a [u8]
+    ensures { λ line. ⌜ now line ≡ bytesAt (now (policy .entry)) (now (evidence .entry)) (placeOf (now (policy .entry)) (now (evidence .entry)) r) ⌝ }
+    ensures { λ line. ⌜ ptr line ≡ beginsAt (ptr (policy .entry)) (ptr (evidence .entry)) (placeOf (now (policy .entry)) (now (evidence .entry)) r) ⌝ }
 {
-    let place = place_as(policy, evidence, typing);
+    let place = place_of(policy, evidence, r);
     let from = place.from;
     let to = place.to;
     if place.evidence {
@@ -183,7 +168,7 @@ pub fn bad_line<'a>(policy: &'a [u8], evidence: &'a [u8]) -> &'a [u8]
     ensures { λ r. ⌜ now r ≡ badLine (now (policy .entry)) (now (evidence .entry)) ⌝ }
     ensures { λ r. ⌜ ptr r ≡ beginsAt (ptr (policy .entry)) (ptr (evidence .entry)) (badPlace (now (policy .entry)) (now (evidence .entry))) ⌝ }
 {
-    line_as(policy, evidence, is_typing(evidence))
+    line_of(policy, evidence, refusal_of(policy, evidence))
 }
 
 // The same of a text where a typing is wanted.
@@ -191,5 +176,5 @@ pub fn bad_typing_line<'a>(policy: &'a [u8], typing: &'a [u8]) -> &'a [u8]
     ensures { λ r. ⌜ now r ≡ badTypingLine (now (policy .entry)) (now (typing .entry)) ⌝ }
     ensures { λ r. ⌜ ptr r ≡ beginsAt (ptr (policy .entry)) (ptr (typing .entry)) (badTypingPlace (now (policy .entry)) (now (typing .entry))) ⌝ }
 {
-    line_as(policy, typing, true)
+    line_of(policy, typing, typing_refusal_of(policy, typing))
 }

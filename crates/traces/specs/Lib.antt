@@ -2,6 +2,5 @@
 pub mod TraceLines
 pub mod TraceText
 pub mod TraceWalk
-pub mod TraceReached
 pub mod Exact
 pub mod Worked

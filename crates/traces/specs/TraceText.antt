@@ -2,14 +2,12 @@
 use Prim.Native.Nat.{ℕ}
 use mathlib.Core.Bool.{Bool, true, false, cond}
 use mathlib.Core.List.{List, [], _∷_, _++_}
-use lib.ListN.{length}
 use Rattle.tables.specs.declared.Name.{Name}
 use Rattle.text.specs.Forms.{bytes}
 use Rattle.text.specs.Pieces.{sameBytes}
 use Rattle.steps.specs.declared.Step.{Step}
-use Rattle.reading.specs.Texts.{Judged, goes, ends, bad, Reading, read, refused, readText}
+use Rattle.reading.specs.Texts.{Judged, goes, ends, bad, Reading, readText}
 use Rattle.traces.specs.declared.TraceLine.{TraceLine}
-use Rattle.traces.specs.declared.TraceRead.{TraceRead}
 use Rattle.traces.specs.TraceLines.{traceLine}
 
 -- The steps so far, and whether the header stands above.
@@ -48,16 +46,3 @@ readTrace assigns revokes users text = readText (judgeLine assigns revokes users
 unfoldable pub codeOf : TraceLine → ℕ
 codeOf (TraceLine.Step step) = 0
 codeOf (TraceLine.Bad number) = number
-
--- a refused text has no steps
-unfoldable pub refusedTrace : (number line : ℕ) → TraceRead
-refusedTrace number line = record { refusal = number; line = line; steps = 0 }
-
--- the number of steps of a text that is read
-unfoldable pub answerOf : Reading Traced → TraceRead
-answerOf (read s) = record { refusal = 0; line = 0; steps = length (s .steps) }
-answerOf (refused number line) = refusedTrace number line
-
--- the refusal of a text, or the number of its steps
-unfoldable pub traceRead : (assigns revokes : ℕ) → List Name → List ℕ → TraceRead
-traceRead assigns revokes users text = answerOf (readTrace assigns revokes users text)

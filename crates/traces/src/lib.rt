@@ -1,10 +1,10 @@
-// A trace text, read line by line over the policy's user names and rule counts.
+// The lines of a trace text, read over the policy's user names and rule counts.
 ghost use mathlib.Core.Path.{_≡_};
 ghost use Prim.Native.Nat.{_*_, _-_, _≤_};
 ghost use lib.ListN.{length};
 ghost use Rattle.tables.specs.Names.{rows};
 ghost use Rattle.traces.specs.TraceLines.{fourFields, answerTo, judged, traceLine, stepOf};
-ghost use Rattle.traces.specs.TraceText.{codeOf, refusedTrace, traceRead};
+ghost use Rattle.traces.specs.TraceText.{codeOf};
 use fields::turns::turn;
 use lines::Counts;
 use steps::Step;
@@ -13,13 +13,6 @@ use steps::Step;
 pub enum TraceLine {
     Step(Step),
     Bad(u64),
-}
-
-// What reading a trace gives: the refusal's number and line, 0 where the text is read, and then the number of its steps.
-pub struct TraceRead {
-    pub refusal: u64,
-    pub line: usize,
-    pub steps: usize,
 }
 
 // The step where there is no refusal, and else the refusal's number.
@@ -108,17 +101,6 @@ pub fn read_line(line: &[u8], users: &[u64], c: Counts) -> TraceLine
     )
 }
 
-// A refusal.
-fn refused(refusal: u64, line: usize) -> TraceRead
-    ensures { λ r. ⌜ r ≡ refusedTrace refusal line ⌝ }
-{
-    TraceRead {
-        refusal,
-        line,
-        steps: 0,
-    }
-}
-
 // The refusal's number of a line that is not a step.
 pub fn code(answer: TraceLine) -> u64
     ensures { λ r. ⌜ r ≡ codeOf answer ⌝ }
@@ -127,47 +109,4 @@ pub fn code(answer: TraceLine) -> u64
         TraceLine::Step(_) => 0,
         TraceLine::Bad(number) => number,
     }
-}
-
-// A trace text over the policy's users and rule counts. The first bad line decides the refusal.
-pub fn read_trace(text: &[u8], users: &[u64], c: Counts) -> TraceRead
-    requires { ⌜ 4 * c .users ≤ length (now users) ⌝ }
-    ensures { λ r. ⌜ r ≡ traceRead (c .assigns) (c .revokes) (rows (c .users) (now (users .entry))) (now (text .entry)) ⌝ }
-{
-    let end = text.len();
-    if 32768 < end {
-        return refused(14, 0);
-    }
-    if !text::begins_with(text, b"trace\t1\n") {
-        return refused(15, 1);
-    }
-    let mut steps = 0;
-    let mut at = 8;
-    let mut number = 2;
-    while at < end {
-        let stop = text::seek(text, at, b'\n');
-        if stop == end {
-            return refused(15, number);
-        }
-        let line = &text[at..stop];
-        let here = number;
-        at = stop + 1;
-        number += 1;
-        if text::same(line, b"end") {
-            if at < end {
-                return refused(15, number);
-            }
-            return TraceRead {
-                refusal: 0,
-                line: 0,
-                steps,
-            };
-        }
-        let answer = read_line(line, users, c);
-        let TraceLine::Step(_) = answer else {
-            return refused(code(answer), here);
-        };
-        steps += 1;
-    }
-    refused(15, number)
 }

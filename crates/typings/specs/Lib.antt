@@ -1,4 +1,6 @@
 -- What a typing text is read into, and which line is refused.
+pub mod Kind
+pub mod FirstLine
 pub mod TypingLines
 pub mod TypingText
 pub mod TypingReached

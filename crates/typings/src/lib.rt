@@ -7,6 +7,9 @@ ghost use Rattle.tables.specs.declared.Name.{Name};
 ghost use Rattle.tables.specs.Names.{rows};
 ghost use Rattle.typings.specs.TypingLines.{Line, oneField, twoFields, answerTo, judged, typingLine};
 ghost use Rattle.typings.specs.TypingText.{untyped, tableOf, codeOf, refusedTyping, typingRead};
+
+pub mod kind;
+
 use fields::read_set;
 use fields::turns::turn;
 use fields::worse;

@@ -1,18 +1,18 @@
--- `bad_line` is the part with the kind that the first line says.
+-- `bad_line` is the part at the place of the refusal of the two texts.
 use borrow.Author.Needs.{needs}
 use Rattle.places.specs.Place.{badLine}
 use Rattle.places.proofs.bad_line.Statement.{statement}
 use Rattle.places.proofs.bad_line.Tie as tie
 
-is-typing-requires : tie.Need-is-typing-requires
-is-typing-requires c κs = search needs
+refusal-of-requires : tie.Need-refusal-of-requires
+refusal-of-requires c κs = search needs
 
-line-as-requires : tie.Need-line-as-requires
-line-as-requires c κs = search needs
+line-of-requires : tie.Need-line-of-requires
+line-of-requires c κs = search needs
 
 returns : tie.Need-returns
 unfolding badLine
-returns c = rw (c .before .is-typing .ensures) at (c .line-as .ensures)
+returns c = rw (c .before .refusal-of .ensures) at (c .line-of .ensures)
 
 pub bad-line-spec : {M : Type 1} → statement M
-bad-line-spec = tie.close (tie.spec is-typing-requires line-as-requires returns)
+bad-line-spec = tie.close (tie.spec refusal-of-requires line-of-requires returns)

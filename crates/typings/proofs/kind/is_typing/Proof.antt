@@ -1,9 +1,9 @@
 -- `is_typing` compares the first nine bytes, or all of a shorter text.
 use borrow.Author.Needs.{needs}
 use mathlib.Core.Path.{_∙_}
-use Rattle.places.specs.FirstLine.{typing-short, typing-long}
-use Rattle.places.proofs.is_typing.Statement.{statement}
-use Rattle.places.proofs.is_typing.Tie as tie
+use Rattle.typings.specs.FirstLine.{typing-short, typing-long}
+use Rattle.typings.proofs.kind.is_typing.Statement.{statement}
+use Rattle.typings.proofs.kind.is_typing.Tie as tie
 
 slice-aggregate-same : tie.Need-slice-aggregate-same
 slice-aggregate-same c = search needs

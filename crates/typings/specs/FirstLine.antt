@@ -10,7 +10,7 @@ use native.Mathlib.Omega.{arith}
 use Rattle.bytes.specs.Bytes.{indexOf, indexAfter}
 use Rattle.text.specs.Forms.{bytes}
 use Rattle.text.specs.Pieces.{part, sameBytes, same-equal, equal-same, same-answer}
-use Rattle.places.specs.Place.{isTyping}
+use Rattle.typings.specs.Kind.{isTyping}
 
 -- the bytes before the first LF are all of them, or the LF follows them
 data Cut (text line : List ℕ) : Type 0 where

@@ -1,10 +1,9 @@
--- `refusal_as` reads the policy's directory, then its rules, and where both are read, the evidence over them.
+-- `typing_refusal_of` reads the policy's directory, then its rules, and where both are read, the typing over them.
 use borrow.Author.Needs.{needs}
-use mathlib.Core.Path.{_∙_}
 use Rattle.places.specs.PlaceLaws.{after-refused, over-told}
 use Rattle.reading.specs.Told.{Told, directory-untold, directory-told, opened, rules-untold, told, tables-laid}
-use Rattle.places.proofs.refusal_as.Statement.{statement}
-use Rattle.places.proofs.refusal_as.Tie as tie
+use Rattle.places.proofs.typing_refusal_of.Statement.{statement}
+use Rattle.places.proofs.typing_refusal_of.Tie as tie
 
 read-directory-requires : tie.Need-read-directory-requires
 read-directory-requires c κs = search needs
@@ -26,19 +25,19 @@ policy-told c =
     let read = c .before .before .before .before .before .before .before .before .before in
     told _ (directory-told _ (read .before .read-directory .ensures) (read .if1 .left)) (c .before .before .read-rules .ensures) (c .if2 .left)
 
-evidence-refusal-requires : tie.Need-evidence-refusal-requires
-evidence-refusal-requires c κs = tables-laid (policy-told (c .before .before .before .before .before) .laid)
+read-typing-requires : tie.Need-read-typing-requires
+read-typing-requires c κs = let room = tables-laid (policy-told (c .before .before .before .before) .laid) in (room .0, room .1)
 
 returns-3 : tie.Need-returns-3
-returns-3 c = c .evidence-refusal .ensures ∙ over-told (policy-told (c .before .before .before .before .before .before)) _ _
+returns-3 c = over-told (policy-told (c .before .before .before .before .before)) _ (c .read-typing .ensures)
 
-pub refusal-as-spec : {M : Type 1} → statement M
-refusal-as-spec =
+pub typing-refusal-of-spec : {M : Type 1} → statement M
+typing-refusal-of-spec =
     tie.close
     (tie.spec
     read-directory-requires
     returns
     read-rules-requires
     returns-2
-    evidence-refusal-requires
+    read-typing-requires
     returns-3)
