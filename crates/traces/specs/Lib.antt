@@ -4,4 +4,3 @@ pub mod TraceText
 pub mod TraceWalk
 pub mod TraceReached
 pub mod Exact
-pub mod Worked
