@@ -8,4 +8,3 @@ pub mod Outcomes
 pub mod Exact
 pub mod Means
 pub mod Refusals
-pub mod Worked

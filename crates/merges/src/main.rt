@@ -90,15 +90,20 @@ fn show_refused(text: usize, number: u64, line: usize) {
     field(line);
 }
 
+// Writes the success of merge with the joint counts.
+fn show_merged(roles: usize, assigns: usize, revokes: usize, goals: usize) {
+    io::write_all(STDOUT_FILENO, b"\tOK");
+    field(roles);
+    field(assigns);
+    field(revokes);
+    field(goals);
+}
+
 // Writes the answer of merge, and what the buffer holds.
 fn show_merge(policy_1: &[u8], typing_1: &[u8], policy_2: &[u8], typing_2: &[u8], out: &mut [u8]) {
     match arbac::merge(policy_1, typing_1, policy_2, typing_2, out) {
         MergeAnswer::Merged(roles, assigns, revokes, goals, pinned, length) => {
-            io::write_all(STDOUT_FILENO, b"\tOK");
-            field(roles);
-            field(assigns);
-            field(revokes);
-            field(goals);
+            show_merged(roles, assigns, revokes, goals);
             field(pinned);
             field(length);
             show_buffer(out, length);

@@ -19,4 +19,3 @@ pub mod DirectoryReached
 pub mod Opened
 pub mod RulesReached
 pub mod Told
-pub mod Worked

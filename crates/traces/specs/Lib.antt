@@ -3,4 +3,3 @@ pub mod TraceLines
 pub mod TraceText
 pub mod TraceWalk
 pub mod Exact
-pub mod Worked

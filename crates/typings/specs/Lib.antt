@@ -6,4 +6,3 @@ pub mod TypingText
 pub mod TypingReached
 pub mod Exact
 pub mod TypingTold
-pub mod Worked

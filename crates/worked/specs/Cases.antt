@@ -14,7 +14,7 @@ use Rattle.model.specs.Policy.{revoked}
 use Rattle.text.specs.Forms.{bytes, isNumber, decimal, numberOf}
 use Rattle.tables.specs.Names.{sameName}
 use Rattle.reading.specs.Policy.{policyOf, padded}
-use Rattle.reading.specs.Worked.{reading}
+use Rattle.worked.specs.Policies.{reading}
 use Rattle.fields.specs.Turns.{turnOf}
 use Rattle.typings.specs.TypingLines as typing
 use Rattle.typings.specs.TypingText as typings

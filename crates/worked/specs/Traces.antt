@@ -7,10 +7,10 @@ use Rattle.text.specs.Forms.{bytes, isNumber, decimal, numberOf}
 use Rattle.tables.specs.Names.{packed}
 use Rattle.steps.specs.declared.Step.{Step}
 use Rattle.reading.specs.Texts.{Reading, read, refused}
-use Rattle.reading.specs.Worked.{reading}
+use Rattle.worked.specs.Policies.{reading}
 use Rattle.fields.specs.Turns.{turnOf}
 use Rattle.traces.specs.TraceLines.{fourFields, lineOf, isStep, stepNamed, answerTo, judged, traceLine}
 use Rattle.traces.specs.TraceText.{Traced, untraced, headerLine, laterLine, answered, judgeLine, readTrace}
 
 -- the desk's users
 abbrev desk : List Name

@@ -7,10 +7,10 @@ use Rattle.tables.specs.declared.Name.{Name}
 use Rattle.text.specs.Forms.{bytes}
 use Rattle.tables.specs.Names.{packed}
 use Rattle.reading.specs.Texts.{Reading, read, refused}
-use Rattle.reading.specs.Worked.{reading}
+use Rattle.worked.specs.Policies.{reading}
 use Rattle.fields.specs.Turns.{turnOf}
 use Rattle.typings.specs.TypingLines.{oneField, twoFields, lineOf, wellFormed, named, entry, answerTo, judged, typingLine}
 use Rattle.typings.specs.TypingText.{Typed, untyped, added, answered, judgeLine, readTyping}
 
 -- the desk's roles
 abbrev desk : List Name
