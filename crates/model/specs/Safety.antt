@@ -1,6 +1,6 @@
 -- An accepted typing is safe: no run, however long, reaches a bad state (source 003, theorems 1 and 2).
 use Prim.Native.Nat.{ℕ}
-use mathlib.Core.Bool.{true, false, false≢true}
+use mathlib.Core.Bool.{false≢true}
 use mathlib.Core.Logic.{_⊎_, inl, inr, ⊎-elim}
 use mathlib.Core.Path.{_≡_, sym, subst, _∙_}
 use Rattle.roles.specs.declared.RoleSet.{RoleSet}

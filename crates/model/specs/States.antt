@@ -1,6 +1,6 @@
 -- What a step leaves and what it changes: the laws of a state after a user's roles are others.
 use Prim.Native.Nat.{ℕ}
-use mathlib.Core.Path.{_≡_, subst, subst⁻¹}
+use mathlib.Core.Path.{_≡_, subst⁻¹}
 use lib.ListN.{length-set}
 use lib.Seq.{getD-set-same, getD-set-other}
 use native.Mathlib.Decide.{ℕ-discrete}

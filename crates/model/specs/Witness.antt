@@ -1,7 +1,7 @@
 -- The meaning is no empty shell: the desk policy has an accepted typing, and the loose desk has a run of two steps to a bad state.
 use Prim.Native.Nat.{ℕ, zero, suc}
-use mathlib.Core.Bool.{true, false, false≢true}
-use mathlib.Core.List.{List, [], _∷_, List·Memᴰ as Listed, List·Memᴰ·head as first, List·Memᴰ·tail as later, List·Memᴰ·not-nil}
+use mathlib.Core.Bool.{false≢true}
+use mathlib.Core.List.{[], _∷_, List·Memᴰ as Listed, List·Memᴰ·head as first, List·Memᴰ·tail as later, List·Memᴰ·not-nil}
 use mathlib.Core.Path.{_≡_, refl, sym, subst, subst⁻¹, _∙_}
 use lib.Dec.{lit<}
 use native.Mathlib.Omega.{arith}

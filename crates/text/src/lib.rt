@@ -2,7 +2,7 @@
 ghost use mathlib.Core.Path.{_≡_};
 ghost use Prim.Native.Nat.{_+_, _≤_};
 ghost use lib.ListN.{length, take, drop};
-ghost use Rattle.text.specs.Forms.{every, isName, isLabel, nameByte, numberOf, bytes};
+ghost use Rattle.text.specs.Forms.{every, isName, isLabel, nameByte, numberOf};
 ghost use Rattle.text.specs.Eights.{eightClear};
 ghost use Rattle.text.specs.Pieces.{sameBytes, Sought};
 ghost use Rattle.text.specs.Begins.{begins};
