@@ -6,6 +6,7 @@ use std::collections::BTreeSet;
 use std::path::Path;
 use std::time::{Duration, Instant};
 
+#[allow(dead_code)]
 #[path = "../differential/answers.rs"]
 mod answers;
 #[path = "../differential/drafts.rs"]
