@@ -14,11 +14,12 @@ pub fn line_of(policy_name: &[u8], evidence_name: &[u8], line: &mut [u8]) -> usi
     let second = load(evidence_name, &mut evidence);
     let policy_length = first.count;
     let evidence_length = second.count;
-    program_line(
+    let length = program_line(
         first.read,
         &policy[..policy_length],
         second.read,
         &evidence[..evidence_length],
         line,
-    )
+    );
+    length
 }
