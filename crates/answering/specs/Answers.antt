@@ -6,7 +6,7 @@ use lib.ListN.{getD}
 use Rattle.tables.specs.declared.Name.{Name}
 use Rattle.tables.specs.Names.{packed}
 use Rattle.model.specs.declared.Typing.{Typing as Table}
-use Rattle.reading.specs.Texts.{Reading, read, refused}
+use Rattle.walking.specs.Texts.{Reading, read, refused}
 use Rattle.lines.specs.declared.Counts.{Counts}
 use Rattle.reading.specs.Policy.{Said, countsOf, readPolicy}
 use Rattle.typings.specs.TypingText.{Typed, readTyping, tableOf}

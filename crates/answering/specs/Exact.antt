@@ -9,7 +9,7 @@ use Rattle.model.specs.Policy.{State, Run, Bad}
 use Rattle.model.specs.Typing.{Accepted}
 use Rattle.model.specs.Meaning.{meaning}
 use Rattle.model.specs.Safety.{accepted-safe}
-use Rattle.reading.specs.Texts.{read}
+use Rattle.walking.specs.Texts.{read}
 use Rattle.reading.specs.Policy.{Said, policyOf, countsOf, readPolicy}
 use Rattle.typings.specs.TypingText.{Typed, readTyping, tableOf}
 use Rattle.traces.specs.TraceText.{Traced, readTrace}

@@ -12,9 +12,9 @@ use Rattle.tables.specs.declared.Name.{Name}
 use Rattle.text.specs.Forms.{bytes}
 use Rattle.text.specs.Pieces.{split, sameBytes, same-equal}
 use Rattle.fields.specs.Turns.{turnOf}
-use Rattle.reading.specs.Texts.{Judged, bad, read}
-use Rattle.reading.specs.Exact.{LF, Unbroken, none, more, Above, first, next, ReadAs, read-exact}
-use Rattle.reading.specs.FirstLine.{first-piece}
+use Rattle.walking.specs.Texts.{Judged, bad, read}
+use Rattle.walking.specs.Meaning.{LF, Unbroken, none, more, Above, first, next, ReadAs, read-exact}
+use Rattle.walking.specs.FirstLine.{first-piece}
 use Rattle.reading.specs.PolicyExact.{whole-piece}
 use Rattle.typings.specs.TypingLines as typing
 use Rattle.typings.specs.TypingText.{Typed, untyped, readTyping}

@@ -7,10 +7,10 @@ use mathlib.Core.Path.{_≡_, ap, subst, _∙_}
 use lib.Dec.{lit≤}
 use lib.ListN.{length}
 use native.Mathlib.Omega.{arith}
-use Rattle.reading.specs.Texts.{Judged}
+use Rattle.walking.specs.Texts.{Judged}
 use Rattle.reading.specs.Policy.{countsOf}
 use Rattle.reading.specs.PolicyExact.{PolicyRefusal, policy-refusal-exact}
-use Rattle.reading.specs.Evidence.{EvidenceRefusal}
+use Rattle.walking.specs.Evidence.{EvidenceRefusal}
 use Rattle.typings.specs.TypingText.{tableOf}
 use Rattle.typings.specs.Exact.{typing-refusal-exact}
 use Rattle.traces.specs.Exact.{trace-refusal-exact}

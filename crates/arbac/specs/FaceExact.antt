@@ -10,7 +10,7 @@ use lib.ListN.{length, take, drop, replicate, length-append}
 use lib.Seq.{drop-append-seam}
 use native.Mathlib.Omega.{arith}
 use Rattle.tables.specs.declared.Name.{Name}
-use Rattle.reading.specs.Policy.{padded}
+use Rattle.tables.specs.Padded.{padded}
 use Rattle.places.specs.declared.BadPlace.{BadPlace}
 use Rattle.places.specs.Place.{bytesAt, badPlace, badLine, badTypingPlace, badTypingLine}
 use Rattle.judging.specs.declared.Part.{Part}

@@ -3,7 +3,7 @@ use Prim.Native.Nat.{ℕ}
 use mathlib.Core.Bool.{true}
 use mathlib.Core.List.{List}
 use mathlib.Core.Path.{_≡_, refl, sym}
-use Rattle.reading.specs.Texts.{read, refused}
+use Rattle.walking.specs.Texts.{read, refused}
 use Rattle.reading.specs.Policy.{Said, readPolicy}
 use Rattle.typings.specs.TypingText.{readTyping}
 use Rattle.judging.specs.declared.Part.{Part}

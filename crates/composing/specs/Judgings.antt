@@ -9,7 +9,7 @@ use Rattle.model.specs.declared.Typing.{Typing as Table}
 use Rattle.model.specs.Typing.{closure, RulesPass, Accepted}
 use Rattle.model.specs.Meaning.{meaning}
 use Rattle.rules.specs.Exact.{Laid}
-use Rattle.reading.specs.Texts.{read}
+use Rattle.walking.specs.Texts.{read}
 use Rattle.reading.specs.Policy.{Said, policyOf, readPolicy}
 use Rattle.typings.specs.TypingText.{Typed, readTyping, tableOf}
 use Rattle.judging.specs.declared.Part.{Part}

@@ -8,7 +8,7 @@ use borrow.Author.Tests.{leb-true, le-leb}
 use lib.Dec.{leb}
 use lib.ListN.{length}
 use Rattle.model.specs.Meaning.{meaning}
-use Rattle.reading.specs.Texts.{Reading, read, refused}
+use Rattle.walking.specs.Texts.{Reading, read, refused}
 use Rattle.reading.specs.Policy.{Said, readPolicy}
 use Rattle.typings.specs.TypingText.{Typed, readTyping, tableOf}
 use Rattle.judging.specs.declared.Part.{Part}

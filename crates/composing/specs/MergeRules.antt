@@ -7,7 +7,7 @@ use lib.ListN.{length}
 use Rattle.model.specs.Typing.{Typing, closure, RulesPass, Accepted}
 use Rattle.model.specs.Meaning.{meaning}
 use Rattle.model.specs.Sum.{Compatible}
-use Rattle.reading.specs.Texts.{read, refused}
+use Rattle.walking.specs.Texts.{read, refused}
 use Rattle.reading.specs.Policy.{Said, policyOf, readPolicy}
 use Rattle.typings.specs.TypingText.{Typed, readTyping, tableOf}
 use Rattle.judging.specs.declared.Part.{Part}

@@ -4,7 +4,7 @@ use mathlib.Core.List.{List}
 use mathlib.Core.Path.{_≡_, sym, ap, _∙_}
 use lib.ListN.{length, take}
 use Rattle.model.specs.declared.Typing.{Typing as Table}
-use Rattle.reading.specs.Texts.{read}
+use Rattle.walking.specs.Texts.{read}
 use Rattle.reading.specs.Policy.{Said, readPolicy}
 use Rattle.typings.specs.TypingText.{Typed, tableOf}
 use Rattle.judging.specs.Verdict.{pinnedNames}

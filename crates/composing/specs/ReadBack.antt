@@ -3,7 +3,7 @@ use Prim.Native.Nat.{ℕ}
 use mathlib.Core.List.{List}
 use mathlib.Core.Path.{_≡_, ap, _∙_}
 use lib.ListN.{take}
-use Rattle.reading.specs.Texts.{read}
+use Rattle.walking.specs.Texts.{read}
 use Rattle.reading.specs.Policy.{Said, readPolicy}
 use Rattle.typings.specs.TypingText.{Typed, readTyping}
 use Rattle.rereading.specs.Named.{names-read}

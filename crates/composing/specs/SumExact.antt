@@ -4,7 +4,7 @@ use mathlib.Core.Bool.{true, false}
 use mathlib.Core.List.{List}
 use mathlib.Core.Logic.{_↔_, _⊎_, inl, inr}
 use mathlib.Core.Path.{_≡_, refl, ap, _∙_}
-use Rattle.reading.specs.Texts.{Reading, read, refused}
+use Rattle.walking.specs.Texts.{Reading, read, refused}
 use Rattle.reading.specs.Policy.{Said, readPolicy}
 use Rattle.typings.specs.TypingText.{Typed, readTyping, tableOf}
 use Rattle.summing.specs.declared.SumAnswer.{SumAnswer}

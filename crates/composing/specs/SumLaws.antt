@@ -9,7 +9,7 @@ use Rattle.roles.specs.Sets.{unionOf}
 use Rattle.roles.specs.Members.{union-comm, union-assoc, union-self}
 use Rattle.model.specs.declared.Typing.{Typing as Table}
 use Rattle.tables.specs.declared.Name.{Name}
-use Rattle.reading.specs.Texts.{read}
+use Rattle.walking.specs.Texts.{read}
 use Rattle.reading.specs.Policy.{Said, readPolicy}
 use Rattle.typings.specs.TypingText.{Typed, readTyping, tableOf}
 use Rattle.spelling.specs.TypingText.{typingText}

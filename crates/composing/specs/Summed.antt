@@ -14,8 +14,8 @@ use Rattle.model.specs.declared.Typing.{Typing as Table}
 use Rattle.model.specs.Typing.{sum}
 use Rattle.model.specs.Meaning.{meaning}
 use Rattle.tables.specs.declared.Name.{Name}
-use Rattle.reading.specs.Texts.{read}
-use Rattle.reading.specs.Policy.{padded}
+use Rattle.walking.specs.Texts.{read}
+use Rattle.tables.specs.Padded.{padded}
 use Rattle.typings.specs.TypingText.{Typed, readTyping, tableOf}
 use Rattle.spelling.specs.TypingText.{typingText}
 use Rattle.rereading.specs.Named.{Named}

@@ -9,7 +9,7 @@ use Rattle.model.specs.Typing.{Typing, Accepted}
 use Rattle.model.specs.Meaning.{meaning}
 use Rattle.model.specs.Sum as model
 use Rattle.tables.specs.declared.Name.{Name}
-use Rattle.reading.specs.Texts.{read}
+use Rattle.walking.specs.Texts.{read}
 use Rattle.reading.specs.Policy.{Said, policyOf, readPolicy}
 use Rattle.reading.specs.Kept.{read-bounded}
 use Rattle.typings.specs.TypingText.{Typed, readTyping, tableOf}

@@ -17,7 +17,8 @@ use Rattle.tables.specs.declared.Name.{Name}
 use Rattle.tables.specs.Names.{sameName, placeOf, rows, rows-length, place-one-to-one}
 use Rattle.reading.specs.declared.directory.Directory.{Directory}
 use Rattle.reading.specs.declared.policy.Rules.{Rules}
-use Rattle.reading.specs.Policy.{Said, padded}
+use Rattle.reading.specs.Policy.{Said}
+use Rattle.tables.specs.Padded.{padded}
 use Rattle.reading.specs.Told.{Laid, roles-listed, users-listed, people-laid}
 use Rattle.merging.specs.Directory.{sameLists, sameLabel, samePerson, sameDirectory, sameTables}
 use Rattle.merging.specs.Comparing.{same-names}

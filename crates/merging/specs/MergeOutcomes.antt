@@ -10,7 +10,7 @@ use Rattle.tables.specs.declared.Name.{Name}
 use Rattle.lines.specs.declared.Counts.{Counts}
 use Rattle.reading.specs.declared.directory.Directory.{Directory}
 use Rattle.reading.specs.declared.policy.Rules.{Rules}
-use Rattle.reading.specs.Texts.{read, refused}
+use Rattle.walking.specs.Texts.{read, refused}
 use Rattle.reading.specs.Policy.{Said, countsOf, readPolicy}
 use Rattle.reading.specs.Told.{Laid}
 use Rattle.typings.specs.TypingText.{Typed, readTyping, tableOf}

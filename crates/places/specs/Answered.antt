@@ -5,7 +5,7 @@ use mathlib.Core.List.{List}
 use mathlib.Core.Path.{_≡_, refl, sym, ap, subst, _∙_}
 use lib.Dec.{eqb}
 use lib.ListN.{length}
-use Rattle.reading.specs.Texts.{Reading, read, refused}
+use Rattle.walking.specs.Texts.{Reading, read, refused}
 use Rattle.reading.specs.Policy.{Said, countsOf}
 use Rattle.typings.specs.Kind.{isTyping}
 use Rattle.typings.specs.TypingText.{tableOf}

@@ -9,9 +9,9 @@ use lib.Dec.{leb}
 use lib.ListN.{length, take, drop}
 use native.Mathlib.Omega.{arith}
 use Rattle.text.specs.Pieces.{part}
-use Rattle.reading.specs.Texts.{Judged, Reading, read, refused}
-use Rattle.reading.specs.Evidence.{EvidenceRefusal}
-use Rattle.reading.specs.Evidence as evidences
+use Rattle.walking.specs.Texts.{Judged, Reading, read, refused}
+use Rattle.walking.specs.Evidence.{EvidenceRefusal}
+use Rattle.walking.specs.Evidence as evidences
 use Rattle.reading.specs.Policy.{Said, readPolicy}
 use Rattle.reading.specs.PolicyExact.{PolicyRefusal, policy-refusal-exact}
 use Rattle.reading.specs.PolicyExact as policies

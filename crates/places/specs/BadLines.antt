@@ -5,7 +5,7 @@ use mathlib.Core.List.{List, [], _∷_}
 use mathlib.Core.Path.{_≡_}
 use lib.ListN.{length, getD, take}
 use Rattle.text.specs.Pieces.{split}
-use Rattle.reading.specs.Exact.{LF}
+use Rattle.walking.specs.Meaning.{LF}
 use Rattle.places.specs.declared.BadPlace.{BadPlace}
 
 -- The line of a number, from 1, without its LF: that piece of the text between LFs.

@@ -10,9 +10,9 @@ use lib.Seq.{getD-at}
 use native.Mathlib.Decide.{ℕ-discrete}
 use native.Mathlib.Omega.{arith}
 use Rattle.text.specs.Pieces.{split, onto, split-piece}
-use Rattle.reading.specs.Texts.{Judged}
-use Rattle.reading.specs.Exact.{LF, Unbroken, Above, LineAt, one-piece, line-piece}
-use Rattle.reading.specs.Exact as exact
+use Rattle.walking.specs.Texts.{Judged}
+use Rattle.walking.specs.Meaning.{LF, Unbroken, Above, LineAt, one-piece, line-piece}
+use Rattle.walking.specs.Meaning as exact
 use Rattle.places.specs.BadLines.{lineAt, HasLine, PastLast}
 use Rattle.places.specs.LinePlaces.{some-piece}
 

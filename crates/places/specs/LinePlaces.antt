@@ -10,7 +10,7 @@ use native.Mathlib.Decide.{decLt}
 use native.Mathlib.Omega.{arith}
 use Rattle.bytes.specs.Bytes.{indexOf}
 use Rattle.text.specs.Pieces.{split, split-none, split-some, split-piece}
-use Rattle.reading.specs.Exact.{LF}
+use Rattle.walking.specs.Meaning.{LF}
 use Rattle.places.specs.Place.{noSpan, spanOf}
 use Rattle.places.specs.PlaceLaws.{index-most}
 use Rattle.places.specs.BadLines.{lineAt, bytesIn, startOf, HasLine, PastLast}

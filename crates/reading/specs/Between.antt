@@ -11,8 +11,8 @@ use Rattle.lines.specs.declared.Counts.{Counts}
 use Rattle.lines.specs.declared.Entry.{Entry}
 use Rattle.lines.specs.declared.PolicyLine.{PolicyLine}
 use Rattle.lines.specs.Lines.{policyLine, Fitting, good-fits}
-use Rattle.reading.specs.Texts.{Judged, goes, read, refused}
-use Rattle.reading.specs.Walk.{On, on-end, on-tail, on-bad, on-goes, on-last, on-more}
+use Rattle.walking.specs.Texts.{Judged, goes, read, refused}
+use Rattle.walking.specs.Walk.{On, on-end, on-tail, on-bad, on-goes, on-last, on-more}
 use Rattle.reading.specs.Policy.{Said, nothing, countsOf, added, entered, answered, judgeLine, readPolicy}
 use Rattle.reading.specs.Bounded.{Bounded, bounded-added}
 

@@ -9,8 +9,9 @@ use Rattle.tables.specs.Names.{wordsOf}
 use Rattle.text.specs.Pieces.{split}
 use Rattle.lines.specs.declared.Counts.{Counts}
 use Rattle.reading.specs.declared.directory.Directory.{Directory}
-use Rattle.reading.specs.Texts.{Judged, goes, ends, bad, Reading, read, refused}
-use Rattle.reading.specs.Policy.{Said, nothing, countsOf, judgeLine, padded}
+use Rattle.walking.specs.Texts.{Judged, goes, ends, bad, Reading, read, refused}
+use Rattle.reading.specs.Policy.{Said, nothing, countsOf, judgeLine}
+use Rattle.tables.specs.Padded.{padded}
 
 -- Where the rules begin: what the lines above say, and the place and the number of the first line that is not of the directory.
 pub record Opening : Type 0 where

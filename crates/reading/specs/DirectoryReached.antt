@@ -17,11 +17,12 @@ use Rattle.lines.specs.declared.Entry.{Entry}
 use Rattle.lines.specs.declared.PolicyLine.{PolicyLine}
 use Rattle.lines.specs.Lines.{policyLine}
 use Rattle.reading.specs.declared.directory.Directory.{Directory}
-use Rattle.reading.specs.Texts.{goes, bad}
-use Rattle.reading.specs.Walk.{on-start}
-use Rattle.reading.specs.Policy.{Said, nothing, countsOf, added, entered, answered, judgeLine, padded}
+use Rattle.walking.specs.Texts.{goes, bad}
+use Rattle.walking.specs.Walk.{on-start}
+use Rattle.reading.specs.Policy.{Said, nothing, countsOf, added, entered, answered, judgeLine}
+use Rattle.tables.specs.Padded.{padded}
 use Rattle.reading.specs.Bounded.{bounded-nothing}
-use Rattle.reading.specs.Storing.{more-one, store-next, store-name, store-old, read-old, getD-any, table-room, table-names}
+use Rattle.tables.specs.Storing.{more-one, store-next, store-name, store-old, read-old, getD-any, table-room, table-names}
 use Rattle.reading.specs.Order.{OfDirectory, end-entry}
 use Rattle.reading.specs.Between.{Between, fits-here, judged-is, judged-entry, between-added}
 use Rattle.reading.specs.Directory.{closed, laidWith, laidOut, refusedDirectory, directoryOf, directoryRead}

@@ -7,8 +7,8 @@ use lib.ListN.{length}
 use Rattle.text.specs.Forms.{bytes}
 use Rattle.text.specs.Pieces.{split, sameBytes, same-equal}
 use Rattle.text.specs.Begins.{begins}
-use Rattle.reading.specs.Texts.{Judged, bad, refused}
-use Rattle.reading.specs.FirstLine.{first-piece, not-begun}
+use Rattle.walking.specs.Texts.{Judged, bad, refused}
+use Rattle.walking.specs.FirstLine.{first-piece, not-begun}
 use Rattle.lines.specs.Lines.{Line, header, role, user, has, assign, revoke, goal, end, other, oneField, twoFields, threeFields, fiveFields, lineOf, inOrder, wellFormed, inTurn, judged, policyLine}
 use Rattle.reading.specs.Policy.{Said, nothing, countsOf, answered, judgeLine, readPolicy}
 use Rattle.reading.specs.PolicyExact.{whole-piece}

@@ -8,7 +8,7 @@ use lib.ListN.{length, drop, length-drop, length-take, drop-of-length-le}
 use native.Mathlib.Numerals.{add-one}
 use native.Mathlib.Omega.{arith}
 use Rattle.text.specs.Pieces.{split, split-piece, part, Sought, sought-some, sought-last}
-use Rattle.reading.specs.Texts.{Judged, goes, bad, read, refused}
+use Rattle.walking.specs.Texts.{Judged, goes, bad, read, refused}
 use Rattle.reading.specs.Policy.{Said, nothing, judgeLine}
 use Rattle.reading.specs.Directory.{Opening, closed, leading, directoryLines, readDirectory}
 

@@ -1,15 +1,9 @@
--- How a text is read line by line, what a policy text is read into, and when any piece of evidence is refused.
-pub mod Texts
+-- What a policy text is read into, and when it is refused.
 pub mod Policy
 pub mod Directory
 pub mod Rules
-pub mod Walk
-pub mod FirstLine
-pub mod Storing
 pub mod Bounded
 pub mod Kept
-pub mod Exact
-pub mod Evidence
 pub mod PolicyExact
 pub mod Header
 pub mod Order

@@ -13,15 +13,15 @@ use Rattle.lines.specs.declared.Counts.{Counts}
 use Rattle.lines.specs.declared.Entry.{Entry}
 use Rattle.lines.specs.declared.PolicyLine.{PolicyLine}
 use Rattle.lines.specs.Lines.{policyLine, good-fits}
-use Rattle.reading.specs.Texts.{Judged, goes, ends, bad, Reading, read, refused, readLines, onward, text-long}
-use Rattle.reading.specs.Walk.{On, on-start}
+use Rattle.walking.specs.Texts.{Judged, goes, ends, bad, Reading, read, refused, readLines, onward, text-long}
+use Rattle.walking.specs.Walk.{On, on-start}
 use Rattle.reading.specs.Policy.{Said, nothing, countsOf, added, judgeLine, readPolicy}
 use Rattle.reading.specs.Bounded.{Bounded, bounded-nothing, bounded-added}
 use Rattle.reading.specs.Kept.{line-keeps}
 use Rattle.reading.specs.Order.{OfDirectory, early-entry, closed-line}
 use Rattle.reading.specs.Between.{Between}
 use Rattle.reading.specs.PolicyExact.{end-exact}
-use Rattle.reading.specs.FirstLine.{first-piece}
+use Rattle.walking.specs.FirstLine.{first-piece}
 use Rattle.reading.specs.Directory.{Opening, closed, leading, directoryLines, readDirectory}
 use Rattle.reading.specs.Leading.{openingAt}
 

@@ -16,7 +16,7 @@ use Rattle.lines.specs.declared.Counts.{Counts}
 use Rattle.lines.specs.declared.Entry.{Entry}
 use Rattle.lines.specs.declared.PolicyLine.{PolicyLine}
 use Rattle.lines.specs.Lines.{Line, header, role, user, has, assign, revoke, goal, end, other, lineOf, inOrder, wellFormed, withinLimit, declared, entry, inTurn, judged, policyLine}
-use Rattle.reading.specs.Texts.{goes, ends, bad}
+use Rattle.walking.specs.Texts.{goes, ends, bad}
 use Rattle.reading.specs.Policy.{Said, countsOf, added, entered, answered, judgeLine}
 use Rattle.reading.specs.Directory.{closed}
 

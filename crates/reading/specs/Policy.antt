@@ -1,8 +1,8 @@
--- A whole policy text: what each line adds, and how a list is laid out in an array.
-use Prim.Native.Nat.{ℕ, _-_}
+-- A whole policy text: what each line adds.
+use Prim.Native.Nat.{ℕ}
 use mathlib.Core.Bool.{cond}
 use mathlib.Core.List.{List, [], _∷_, _++_}
-use lib.ListN.{length, replicate}
+use lib.ListN.{length}
 use Rattle.roles.specs.declared.RoleSet.{RoleSet}
 use Rattle.roles.specs.Sets.{emptySet, hasRole}
 use Rattle.model.specs.declared.Assign.{Assign}
@@ -12,7 +12,7 @@ use Rattle.tables.specs.declared.Name.{Name}
 use Rattle.lines.specs.declared.Counts.{Counts}
 use Rattle.lines.specs.declared.Entry.{Entry}
 use Rattle.lines.specs.declared.PolicyLine.{PolicyLine}
-use Rattle.reading.specs.Texts.{Judged, goes, ends, bad, Reading, readText}
+use Rattle.walking.specs.Texts.{Judged, goes, ends, bad, Reading, readText}
 use Rattle.lines.specs.Lines.{policyLine}
 
 -- What the lines so far say: the kind of the last one, the names, the holdings, the rules and the goals, each in the order read.
@@ -137,10 +137,6 @@ judgeLine s line = answered s (policyLine (countsOf s) (s .roles) (s .users) lin
 -- The whole text: 10 where it is too long, 11 where `end` is missing or not the last line.
 unfoldable pub readPolicy : List ℕ → Reading Said
 readPolicy text = readText judgeLine 11 10 nothing text
-
--- a list laid out in an array: its elements, then the same filling to the end
-unfoldable pub padded {ℓ} : {A : Type ℓ} → ℕ → A → List A → List A
-padded size filling elements = elements ++ replicate (size - length elements) filling
 
 -- what fills the arrays
 unfoldable pub noAssign : Assign

@@ -13,11 +13,11 @@ use Rattle.model.specs.Policy.{person, Holds}
 use Rattle.text.specs.Forms.{bytes}
 use Rattle.text.specs.Pieces.{split, onto, sameBytes, same-equal, split-piece}
 use Rattle.lines.specs.declared.Entry.{Entry}
-use Rattle.reading.specs.Texts.{Judged, goes, ends, bad, Reading, read, refused}
+use Rattle.walking.specs.Texts.{Judged, goes, ends, bad, Reading, read, refused}
 use Rattle.fields.specs.Fields.{placed}
 use Rattle.lines.specs.Lines.{Line, header, role, user, has, assign, revoke, goal, end, other, oneField, twoFields, threeFields, fiveFields, lineOf, wellFormed, withinLimit, declared, entry, inTurn, judged, policyLine}
 use Rattle.reading.specs.Policy.{Said, nothing, countsOf, added, entered, answered, judgeLine, readPolicy}
-use Rattle.reading.specs.Exact.{Unbroken, Above, LineAt, ReadAs, Refusal, refusal-exact, read-exact}
+use Rattle.walking.specs.Meaning.{Unbroken, Above, LineAt, ReadAs, Refusal, refusal-exact, read-exact}
 
 -- ---- one line
 

@@ -4,8 +4,9 @@ use mathlib.Core.List.{List}
 use Rattle.roles.specs.Sets.{emptySet}
 use Rattle.lines.specs.declared.Counts.{Counts}
 use Rattle.reading.specs.declared.policy.Rules.{Rules}
-use Rattle.reading.specs.Texts.{Reading, read, refused}
-use Rattle.reading.specs.Policy.{Said, nothing, countsOf, readPolicy, padded, noAssign, noRevoke}
+use Rattle.walking.specs.Texts.{Reading, read, refused}
+use Rattle.reading.specs.Policy.{Said, nothing, countsOf, readPolicy, noAssign, noRevoke}
+use Rattle.tables.specs.Padded.{padded}
 
 -- no refusal, and the rules and goals laid out, with the counts of the policy
 unfoldable pub laidWith : Counts → Said → Rules

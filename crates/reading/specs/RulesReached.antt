@@ -15,8 +15,9 @@ use Rattle.lines.specs.declared.Entry.{Entry}
 use Rattle.lines.specs.declared.PolicyLine.{PolicyLine}
 use Rattle.lines.specs.Lines.{policyLine}
 use Rattle.reading.specs.declared.policy.Rules.{Rules}
-use Rattle.reading.specs.Policy.{Said, nothing, countsOf, added, entered, padded, noAssign, noRevoke}
-use Rattle.reading.specs.Storing.{more-one, store-next}
+use Rattle.reading.specs.Policy.{Said, nothing, countsOf, added, entered, noAssign, noRevoke}
+use Rattle.tables.specs.Padded.{padded}
+use Rattle.tables.specs.Storing.{more-one, store-next}
 use Rattle.reading.specs.Between.{Between, fits-here, between-end, between-tail, between-bad, between-added, between-last, between-more}
 use Rattle.reading.specs.Rules.{laidWith, laidOut, refusedRules, rulesOf, rulesRead}
 use Rattle.reading.specs.Order.{OfDirectory, early-entry}

@@ -14,14 +14,16 @@ use Rattle.lines.specs.declared.PolicyLine.{PolicyLine}
 use Rattle.lines.specs.Lines.{policyLine}
 use Rattle.reading.specs.declared.directory.Directory.{Directory}
 use Rattle.reading.specs.declared.policy.Rules.{Rules}
-use Rattle.reading.specs.Texts.{Reading, read, refused}
-use Rattle.reading.specs.Policy.{Said, nothing, countsOf, added, judgeLine, readPolicy, padded}
-use Rattle.reading.specs.Walk.{On}
+use Rattle.walking.specs.Texts.{Reading, read, refused}
+use Rattle.reading.specs.Policy.{Said, nothing, countsOf, added, judgeLine, readPolicy}
+use Rattle.tables.specs.Padded.{padded}
+use Rattle.walking.specs.Walk.{On}
 use Rattle.reading.specs.Directory.{Opening, laidWith as directoryWith, laidOut as directoryLaid, refusedDirectory, directoryOf, directoryRead, readDirectory}
 use Rattle.reading.specs.Rules.{laidWith, laidOut, refusedRules, rulesOf, rulesRead}
 use Rattle.reading.specs.Bounded.{Bounded}
-use Rattle.reading.specs.Storing.{table-room, table-names}
-use Rattle.reading.specs.Kept.{lines-keep, line-keeps, read-bounded}
+use Rattle.tables.specs.Storing.{table-room, table-names}
+use Rattle.walking.specs.Kept.{lines-keep}
+use Rattle.reading.specs.Kept.{line-keeps, read-bounded}
 use Rattle.reading.specs.Order.{OfDirectory, early-entry}
 use Rattle.reading.specs.Opened.{Opened, Begins, Outcome, directory-exact}
 use Rattle.reading.specs.PolicyExact.{PolicyRefusal, policy-refusal-exact}

@@ -13,10 +13,10 @@ use Rattle.roles.specs.Members.{_∈_, Sized}
 use Rattle.tables.specs.declared.Name.{Name}
 use Rattle.text.specs.Forms.{namesOf}
 use Rattle.text.specs.Pieces.{split}
-use Rattle.reading.specs.Texts.{Judged, goes, ends, bad, read}
+use Rattle.walking.specs.Texts.{Judged, goes, ends, bad, read}
 use Rattle.fields.specs.Fields.{placed, isDeclared, allDeclared, rolesOf}
-use Rattle.reading.specs.Kept.{text-keeps}
-use Rattle.reading.specs.Exact.{read-exact}
+use Rattle.walking.specs.Kept.{text-keeps}
+use Rattle.walking.specs.Meaning.{read-exact}
 use Rattle.typings.specs.declared.TypingEntry.{TypingEntry}
 use Rattle.fields.specs.Turns.{turnOf}
 use Rattle.typings.specs.TypingLines.{Line, header, row, end, other, lineOf, wellFormed, named, entry, answerTo, judged, typingLine}

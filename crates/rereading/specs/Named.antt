@@ -15,11 +15,12 @@ use Rattle.text.specs.Pieces.{split}
 use Rattle.lines.specs.declared.Counts.{Counts}
 use Rattle.lines.specs.declared.Entry.{Entry}
 use Rattle.lines.specs.declared.PolicyLine.{PolicyLine}
-use Rattle.reading.specs.Texts.{read}
+use Rattle.walking.specs.Texts.{read}
 use Rattle.fields.specs.Fields.{placed, isDeclared}
 use Rattle.lines.specs.Lines.{Line, header, role, user, has, assign, revoke, goal, end, other, lineOf, inOrder, wellFormed, withinLimit, declared, entry, inTurn, judged, policyLine}
 use Rattle.reading.specs.Policy.{Said, nothing, countsOf, added, judgeLine, readPolicy}
-use Rattle.reading.specs.Kept.{text-keeps, line-keeps}
+use Rattle.walking.specs.Kept.{text-keeps}
+use Rattle.reading.specs.Kept.{line-keeps}
 use Rattle.verdicts.specs.Sizes.{each-more}
 
 -- A field that is a name, and its packing.

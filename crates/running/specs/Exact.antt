@@ -7,7 +7,7 @@ use lib.ListN.{length}
 use native.Mathlib.Omega.{arith}
 use Rattle.model.specs.Policy.{State, Bad}
 use Rattle.model.specs.Safety.{Attack}
-use Rattle.reading.specs.Texts.{Reading, read, refused}
+use Rattle.walking.specs.Texts.{Reading, read, refused}
 use Rattle.reading.specs.Policy.{Said, policyOf}
 use Rattle.steps.specs.declared.Found.{Found}
 use Rattle.steps.specs.declared.Step.{Step}

@@ -11,8 +11,9 @@ use Rattle.model.specs.Policy.{nobody}
 use Rattle.tables.specs.Names.{rows}
 use Rattle.reading.specs.declared.directory.Directory.{Directory}
 use Rattle.reading.specs.declared.policy.Rules.{Rules}
-use Rattle.reading.specs.Texts.{Reading, read, refused}
-use Rattle.reading.specs.Policy.{Said, countsOf, padded, noAssign, noRevoke}
+use Rattle.walking.specs.Texts.{Reading, read, refused}
+use Rattle.reading.specs.Policy.{Said, countsOf, noAssign, noRevoke}
+use Rattle.tables.specs.Padded.{padded}
 use Rattle.reading.specs.Rules.{laidWith, laidOut}
 use Rattle.reading.specs.Told.{Laid, users-laid, people-laid, tables-laid}
 use Rattle.traces.specs.TraceText.{Traced, readTrace}

@@ -16,7 +16,7 @@ use Rattle.tables.specs.Names.{rows, rows-length}
 use Rattle.text.specs.Forms.{bytes}
 use Rattle.text.specs.Pieces.{part, sameBytes, Sought}
 use Rattle.text.specs.Begins.{begins}
-use Rattle.reading.specs.Texts.{Reading, refused}
+use Rattle.walking.specs.Texts.{Reading, refused}
 use Rattle.steps.specs.declared.Found.{Found}
 use Rattle.steps.specs.declared.Step.{Step}
 use Rattle.steps.specs.Tests.{firstBad}

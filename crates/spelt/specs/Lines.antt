@@ -9,8 +9,8 @@ use lib.Dec.{eqb}
 use lib.ListN.{length}
 use Rattle.text.specs.Forms.{every}
 use Rattle.text.specs.Pieces.{split, onto, split-piece}
-use Rattle.reading.specs.Texts.{Judged, goes, ends, read, readText}
-use Rattle.reading.specs.Exact.{Unbroken, Above, ReadAs, read-exact}
+use Rattle.walking.specs.Texts.{Judged, goes, ends, read, readText}
+use Rattle.walking.specs.Meaning.{Unbroken, Above, ReadAs, read-exact}
 use Rattle.rereading.specs.Cuts.{free, cut-first, cut-last, free-join}
 
 -- Fields parted by one byte.

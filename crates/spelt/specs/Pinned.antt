@@ -14,8 +14,9 @@ use Rattle.tables.specs.declared.Name.{Name}
 use Rattle.tables.specs.Names.{packed}
 use Rattle.text.specs.Forms.{bytes, every, isName, namesOf}
 use Rattle.text.specs.Pieces.{split, onto, among, repeated}
-use Rattle.reading.specs.Texts.{read}
-use Rattle.reading.specs.Policy.{Said, readPolicy, padded}
+use Rattle.walking.specs.Texts.{read}
+use Rattle.reading.specs.Policy.{Said, readPolicy}
+use Rattle.tables.specs.Padded.{padded}
 use Rattle.reading.specs.Kept.{read-bounded}
 use Rattle.typings.specs.TypingText.{Typed, readTyping, tableOf}
 use Rattle.steps.specs.Places.{At, at-stands, at-listed, listed-at}

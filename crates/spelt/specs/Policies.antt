@@ -11,7 +11,7 @@ use Rattle.text.specs.Pieces.{sameBytes, among, repeated, same-equal}
 use Rattle.fields.specs.Fields.{placed}
 use Rattle.writing.specs.Written.{spelled}
 use Rattle.writing.specs.Spelling.{spelled-packed}
-use Rattle.reading.specs.Texts.{read}
+use Rattle.walking.specs.Texts.{read}
 use Rattle.reading.specs.Policy.{Said, readPolicy}
 use Rattle.rereading.specs.Named.{Spelt, Named, names-read, users-read}
 use Rattle.rereading.specs.Standing.{Standing, none, more, standing, spelled-form, spelled-placed}

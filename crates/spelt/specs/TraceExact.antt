@@ -8,7 +8,7 @@ use lib.ListN.{length}
 use Rattle.tables.specs.declared.Name.{Name}
 use Rattle.tables.specs.Names.{packed}
 use Rattle.text.specs.Forms.{bytes, every}
-use Rattle.reading.specs.Texts.{goes, read}
+use Rattle.walking.specs.Texts.{goes, read}
 use Rattle.reading.specs.Policy.{Said, readPolicy}
 use Rattle.steps.specs.declared.Step.{Step}
 use Rattle.traces.specs.TraceText.{Traced, untraced, judgeLine, readTrace}

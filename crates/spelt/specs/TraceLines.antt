@@ -13,7 +13,7 @@ use Rattle.text.specs.Forms.{bytes, every, isName, numberOf}
 use Rattle.text.specs.Pieces.{split, onto, sameBytes, same-equal, equal-same}
 use Rattle.fields.specs.Fields.{placed, isDeclared}
 use Rattle.fields.specs.Turns.{turnOf}
-use Rattle.reading.specs.Texts.{Judged, goes, ends, bad}
+use Rattle.walking.specs.Texts.{Judged, goes, ends, bad}
 use Rattle.writing.specs.Written.{decimal}
 use Rattle.steps.specs.declared.Step.{Step}
 use Rattle.steps.specs.Places.{at-listed}

@@ -10,7 +10,7 @@ use Rattle.roles.specs.declared.RoleSet.{RoleSet}
 use Rattle.tables.specs.declared.Name.{Name}
 use Rattle.tables.specs.Names.{packed}
 use Rattle.text.specs.Forms.{bytes, every, isName}
-use Rattle.reading.specs.Texts.{goes, read}
+use Rattle.walking.specs.Texts.{goes, read}
 use Rattle.reading.specs.Policy.{Said, readPolicy}
 use Rattle.reading.specs.Kept.{read-bounded}
 use Rattle.steps.specs.Places.{At, here, there, at-inside}

@@ -16,7 +16,7 @@ use Rattle.text.specs.Forms.{bytes, every, isName, isLabel, isSet}
 use Rattle.text.specs.Pieces.{split, onto, sameBytes, same-equal}
 use Rattle.fields.specs.Fields.{placed, allDeclared, rolesOf}
 use Rattle.fields.specs.Turns.{turnOf}
-use Rattle.reading.specs.Texts.{Judged, goes, ends, bad}
+use Rattle.walking.specs.Texts.{Judged, goes, ends, bad}
 use Rattle.steps.specs.Places.{At, at-listed}
 use Rattle.spelling.specs.TypingText.{labelText}
 use Rattle.typings.specs.TypingLines.{Line, header, row, end, other, oneField, twoFields, lineOf, wellFormed, named, entry, answerTo, judged, typingLine}

@@ -7,7 +7,7 @@ use Rattle.tables.specs.declared.Name.{Name}
 use Rattle.tables.specs.Names.{rows}
 use Rattle.reading.specs.declared.directory.Directory.{Directory}
 use Rattle.reading.specs.declared.policy.Rules.{Rules}
-use Rattle.reading.specs.Texts.{refused}
+use Rattle.walking.specs.Texts.{refused}
 use Rattle.reading.specs.Policy.{Said}
 use Rattle.reading.specs.Told.{Laid, roles-laid, tables-laid}
 use Rattle.typings.specs.declared.TypingRead.{TypingRead}

@@ -8,7 +8,7 @@ use lib.ListN.{length}
 use native.Mathlib.Omega.{arith}
 use Rattle.model.specs.declared.Typing.{Typing as Table}
 use Rattle.tables.specs.declared.Name.{Name}
-use Rattle.reading.specs.Texts.{Reading, read, refused}
+use Rattle.walking.specs.Texts.{Reading, read, refused}
 use Rattle.writing.specs.Written.{put}
 use Rattle.spelling.specs.TypingText.{typingText}
 use Rattle.summing.specs.Outcome.{Outcome, leaves, writes, answerIn, bufferAfter, whenRead, fits, fitting, Meets}

@@ -5,7 +5,7 @@ use mathlib.Core.List.{List}
 use mathlib.Core.Path.{_≡_}
 use lib.Dec.{leb}
 use lib.ListN.{length}
-use Rattle.reading.specs.Texts.{Reading, read, refused}
+use Rattle.walking.specs.Texts.{Reading, read, refused}
 use Rattle.writing.specs.Written.{put}
 
 -- An answer that writes nothing, or success with the text that it writes.

@@ -10,7 +10,7 @@ use Rattle.roles.specs.Members.{union-self}
 use Rattle.model.specs.declared.Typing.{Typing as Table}
 use Rattle.model.specs.Typing.{sum}
 use Rattle.model.specs.Meaning.{meaning}
-use Rattle.reading.specs.Policy.{padded}
+use Rattle.tables.specs.Padded.{padded}
 use Rattle.typings.specs.TypingText.{Typed, tableOf}
 use Rattle.summing.specs.Sums.{paired, sumOf}
 

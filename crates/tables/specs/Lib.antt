@@ -1,2 +1,4 @@
--- How a name is packed into words, how names stand in a table, and where a name is found.
+-- How a name is packed into words, how names stand in a table and where a name is found, and lists laid out in arrays.
 pub mod Names
+pub mod Padded
+pub mod Storing

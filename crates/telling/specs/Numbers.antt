@@ -3,7 +3,7 @@ use Prim.Native.Nat.{ℕ, _-_, _<_}
 use mathlib.Core.Bool.{cond}
 use mathlib.Core.List.{List, [], _∷_}
 use mathlib.Core.Path.{_≡_}
-use Rattle.reading.specs.Policy.{padded}
+use Rattle.tables.specs.Padded.{padded}
 use Rattle.places.specs.declared.BadPlace.{BadPlace}
 use Rattle.writing.specs.Written.{put}
 use Rattle.summing.specs.declared.SumAnswer.{SumAnswer}

@@ -9,9 +9,9 @@ use Rattle.text.specs.Forms.{bytes, numberOf}
 use Rattle.text.specs.Pieces.{split, onto, sameBytes, same-equal}
 use Rattle.fields.specs.Fields.{placed}
 use Rattle.fields.specs.Turns.{turnOf}
-use Rattle.reading.specs.Texts.{goes, ends, bad, read, refused}
-use Rattle.reading.specs.Exact.{refusal-exact, read-exact}
-use Rattle.reading.specs.Evidence.{turned, EvidenceRefusal, EvidenceReadAs, refusal-means, reading-means}
+use Rattle.walking.specs.Texts.{goes, ends, bad, read, refused}
+use Rattle.walking.specs.Meaning.{refusal-exact, read-exact}
+use Rattle.walking.specs.Evidence.{turned, EvidenceRefusal, EvidenceReadAs, refusal-means, reading-means}
 use Rattle.steps.specs.declared.Step.{Step}
 use Rattle.traces.specs.TraceLines as trace
 use Rattle.traces.specs.TraceText.{Traced, untraced, readTrace}

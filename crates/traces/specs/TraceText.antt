@@ -6,7 +6,7 @@ use Rattle.tables.specs.declared.Name.{Name}
 use Rattle.text.specs.Forms.{bytes}
 use Rattle.text.specs.Pieces.{sameBytes}
 use Rattle.steps.specs.declared.Step.{Step}
-use Rattle.reading.specs.Texts.{Judged, goes, ends, bad, Reading, readText}
+use Rattle.walking.specs.Texts.{Judged, goes, ends, bad, Reading, readText}
 use Rattle.traces.specs.declared.TraceLine.{TraceLine}
 use Rattle.traces.specs.TraceLines.{traceLine}
 

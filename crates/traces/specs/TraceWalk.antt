@@ -10,9 +10,9 @@ use Rattle.text.specs.Forms.{bytes}
 use Rattle.text.specs.Pieces.{split, onto, part, sameBytes, same-answer, Sought}
 use Rattle.text.specs.Begins.{begins, begins-whole}
 use Rattle.steps.specs.declared.Step.{Step}
-use Rattle.reading.specs.Texts.{ends, bad, read, refused, readLines, text-fits, text-long, lines-next, onward-goes}
-use Rattle.reading.specs.FirstLine.{not-begun}
-use Rattle.reading.specs.Walk.{On, on-end, on-tail, on-bad, on-goes, on-last, on-more}
+use Rattle.walking.specs.Texts.{ends, bad, read, refused, readLines, text-fits, text-long, lines-next, onward-goes}
+use Rattle.walking.specs.FirstLine.{not-begun}
+use Rattle.walking.specs.Walk.{On, on-end, on-tail, on-bad, on-goes, on-last, on-more}
 use Rattle.traces.specs.declared.TraceLine.{TraceLine}
 use Rattle.traces.specs.TraceLines.{traceLine}
 use Rattle.traces.specs.TraceText.{untraced, headerLine, laterLine, answered, judgeLine, readTrace}

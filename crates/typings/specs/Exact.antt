@@ -8,9 +8,9 @@ use lib.ListN.{length}
 use Rattle.tables.specs.declared.Name.{Name}
 use Rattle.text.specs.Pieces.{split}
 use Rattle.fields.specs.Turns.{turnOf}
-use Rattle.reading.specs.Texts.{read, refused}
-use Rattle.reading.specs.Exact.{refusal-exact, read-exact}
-use Rattle.reading.specs.Evidence.{turned, EvidenceRefusal, EvidenceReadAs, refusal-means, reading-means}
+use Rattle.walking.specs.Texts.{read, refused}
+use Rattle.walking.specs.Meaning.{refusal-exact, read-exact}
+use Rattle.walking.specs.Evidence.{turned, EvidenceRefusal, EvidenceReadAs, refusal-means, reading-means}
 use Rattle.typings.specs.declared.TypingEntry.{TypingEntry}
 use Rattle.typings.specs.TypingLines as typing
 use Rattle.typings.specs.TypingText.{Typed, untyped, readTyping}

@@ -14,9 +14,9 @@ use Rattle.model.specs.declared.Typing.{Typing as Table}
 use Rattle.tables.specs.declared.Name.{Name}
 use Rattle.text.specs.Forms.{bytes, isName, isLabel, isSet}
 use Rattle.text.specs.Pieces.{split, part, sameBytes, Sought}
-use Rattle.reading.specs.Texts.{Judged, text-long}
-use Rattle.reading.specs.Walk.{On, on-start, on-end, on-tail, on-bad, on-goes, on-last, on-more}
-use Rattle.reading.specs.Storing.{store-next}
+use Rattle.walking.specs.Texts.{Judged, text-long}
+use Rattle.walking.specs.Walk.{On, on-start, on-end, on-tail, on-bad, on-goes, on-last, on-more}
+use Rattle.tables.specs.Storing.{store-next}
 use Rattle.typings.specs.declared.TypingEntry.{TypingEntry}
 use Rattle.typings.specs.declared.TypingLine.{TypingLine}
 use Rattle.fields.specs.Turns.{turnOf}

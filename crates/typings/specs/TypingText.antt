@@ -6,8 +6,8 @@ use Rattle.roles.specs.declared.RoleSet.{RoleSet}
 use Rattle.roles.specs.Sets.{emptySet}
 use Rattle.model.specs.declared.Typing.{Typing as Table}
 use Rattle.tables.specs.declared.Name.{Name}
-use Rattle.reading.specs.Texts.{Judged, goes, ends, bad, Reading, read, refused, readText}
-use Rattle.reading.specs.Policy.{padded}
+use Rattle.walking.specs.Texts.{Judged, goes, ends, bad, Reading, read, refused, readText}
+use Rattle.tables.specs.Padded.{padded}
 use Rattle.typings.specs.declared.TypingEntry.{TypingEntry}
 use Rattle.typings.specs.declared.TypingLine.{TypingLine}
 use Rattle.typings.specs.declared.TypingRead.{TypingRead}

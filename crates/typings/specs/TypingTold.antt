@@ -4,10 +4,10 @@ use mathlib.Core.List.{List}
 use mathlib.Core.Path.{_≡_, refl, sym, ap, ap₂, _∙_}
 use native.Mathlib.Omega.{arith}
 use Rattle.tables.specs.declared.Name.{Name}
-use Rattle.reading.specs.Texts.{Reading, read, refused}
+use Rattle.walking.specs.Texts.{Reading, read, refused}
 use Rattle.typings.specs.declared.TypingRead.{TypingRead}
 use Rattle.typings.specs.TypingText.{Typed, readTyping, tableOf, refusedTyping, answerOf, typingRead}
-use Rattle.reading.specs.Evidence.{EvidenceRefusal}
+use Rattle.walking.specs.Evidence.{EvidenceRefusal}
 use Rattle.typings.specs.Exact.{TypingRefusal, typing-refusal-exact}
 
 -- the text is read, and the record has what it says

@@ -11,10 +11,11 @@ use Rattle.text.specs.Pieces.{split}
 use Rattle.lines.specs.declared.Counts.{Counts}
 use Rattle.lines.specs.declared.Entry.{Entry}
 use Rattle.lines.specs.declared.PolicyLine.{PolicyLine}
-use Rattle.reading.specs.Texts.{read}
+use Rattle.walking.specs.Texts.{read}
 use Rattle.lines.specs.Lines.{Line, header, role, user, has, assign, revoke, goal, end, other, lineOf, wellFormed, withinLimit, declared, entry, inTurn, judged, policyLine}
 use Rattle.reading.specs.Policy.{Said, nothing, countsOf, added, judgeLine, readPolicy}
-use Rattle.reading.specs.Kept.{text-keeps, line-keeps}
+use Rattle.walking.specs.Kept.{text-keeps}
+use Rattle.reading.specs.Kept.{line-keeps}
 use Rattle.steps.specs.Exact.{SizedRules}
 use Rattle.steps.specs.Bad.{SizedGoals}
 use Rattle.judging.specs.Exact.{SizedPolicy}

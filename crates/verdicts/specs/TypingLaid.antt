@@ -17,10 +17,10 @@ use Rattle.rules.specs.Exact.{Laid}
 use Rattle.tables.specs.declared.Name.{Name}
 use Rattle.text.specs.Forms.{bytes, isName, isSet, isLabel}
 use Rattle.text.specs.Pieces.{split, sameBytes}
-use Rattle.reading.specs.Texts.{goes, ends, bad, read}
+use Rattle.walking.specs.Texts.{goes, ends, bad, read}
 use Rattle.fields.specs.Fields.{rolesOf}
-use Rattle.reading.specs.Policy.{padded}
-use Rattle.reading.specs.Kept.{text-keeps}
+use Rattle.tables.specs.Padded.{padded}
+use Rattle.walking.specs.Kept.{text-keeps}
 use Rattle.steps.specs.Places.{stands-at, at-listed}
 use Rattle.typings.specs.declared.TypingEntry.{TypingEntry}
 use Rattle.typings.specs.declared.TypingLine.{TypingLine}

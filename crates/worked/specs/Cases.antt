@@ -13,7 +13,8 @@ use Rattle.bytes.specs.Bytes.{indexOf}
 use Rattle.model.specs.Policy.{revoked}
 use Rattle.text.specs.Forms.{bytes, isNumber, decimal, numberOf}
 use Rattle.tables.specs.Names.{sameName}
-use Rattle.reading.specs.Policy.{policyOf, padded}
+use Rattle.reading.specs.Policy.{policyOf}
+use Rattle.tables.specs.Padded.{padded}
 use Rattle.worked.specs.Policies.{reading}
 use Rattle.fields.specs.Turns.{turnOf}
 use Rattle.typings.specs.TypingLines as typing

@@ -7,7 +7,7 @@ use Rattle.model.specs.Policy.{nobody, person, holding, granted}
 use Rattle.text.specs.Forms.{bytes, every, between, nameByte, isName, namesOf, isSet, isLabel}
 use Rattle.tables.specs.Names.{value, packed, sameName, placeOf}
 use Rattle.text.specs.Pieces.{onto, split, sameBytes, among, repeated}
-use Rattle.reading.specs.Texts.{Reading, read, refused, closing, onward, readLines, readText}
+use Rattle.walking.specs.Texts.{Reading, read, refused, closing, onward, readLines, readText}
 use Rattle.fields.specs.Fields.{placed, isDeclared, allDeclared, rolesFrom, rolesOf}
 use Rattle.lines.specs.Lines.{oneField, twoFields, threeFields, fiveFields, lineOf, inOrder, wellFormed, withinLimit, declared, entry, inTurn, judged, policyLine}
 use Rattle.reading.specs.Policy.{Said, nothing, countsOf, added, entered, answered, judgeLine, readPolicy}

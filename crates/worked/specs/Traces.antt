@@ -6,7 +6,7 @@ use Rattle.tables.specs.declared.Name.{Name}
 use Rattle.text.specs.Forms.{bytes, isNumber, decimal, numberOf}
 use Rattle.tables.specs.Names.{packed}
 use Rattle.steps.specs.declared.Step.{Step}
-use Rattle.reading.specs.Texts.{Reading, read, refused}
+use Rattle.walking.specs.Texts.{Reading, read, refused}
 use Rattle.worked.specs.Policies.{reading}
 use Rattle.fields.specs.Turns.{turnOf}
 use Rattle.traces.specs.TraceLines.{fourFields, lineOf, isStep, stepNamed, answerTo, judged, traceLine}

@@ -6,7 +6,7 @@ use Rattle.roles.specs.declared.RoleSet.{RoleSet}
 use Rattle.tables.specs.declared.Name.{Name}
 use Rattle.text.specs.Forms.{bytes}
 use Rattle.tables.specs.Names.{packed}
-use Rattle.reading.specs.Texts.{Reading, read, refused}
+use Rattle.walking.specs.Texts.{Reading, read, refused}
 use Rattle.worked.specs.Policies.{reading}
 use Rattle.fields.specs.Turns.{turnOf}
 use Rattle.typings.specs.TypingLines.{oneField, twoFields, lineOf, wellFormed, named, entry, answerTo, judged, typingLine}

@@ -4,7 +4,7 @@ use mathlib.Core.List.{[], _∷_}
 use mathlib.Core.Path.{refl}
 use native.Mathlib.Numerals.{add-one}
 use native.Mathlib.Omega.{arith}
-use Rattle.reading.specs.Policy.{padded}
+use Rattle.tables.specs.Padded.{padded}
 use Rattle.answering.specs.Answers.{numberOf}
 use Rattle.telling.specs.Numbers.{checkValues}
 use Rattle.telling.specs.NumberLaws.{known-told, other-number}

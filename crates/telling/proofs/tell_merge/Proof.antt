@@ -2,7 +2,7 @@
 use borrow.Author.Needs.{needs}
 use mathlib.Core.List.{[], _∷_}
 use mathlib.Core.Path.{refl}
-use Rattle.reading.specs.Policy.{padded}
+use Rattle.tables.specs.Padded.{padded}
 use Rattle.merging.specs.Merge as merges
 use Rattle.telling.specs.Numbers.{mergeValues}
 use Rattle.telling.specs.NumberLaws.{known-told, other-number}

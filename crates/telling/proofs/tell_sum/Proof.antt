@@ -1,7 +1,7 @@
 -- `tell_sum` puts the values of each case, and answers its number.
 use borrow.Author.Needs.{needs}
 use mathlib.Core.Path.{refl}
-use Rattle.reading.specs.Policy.{padded}
+use Rattle.tables.specs.Padded.{padded}
 use Rattle.summing.specs.Sum as sums
 use Rattle.telling.specs.Numbers.{sumValues}
 use Rattle.telling.specs.NumberLaws.{known-told}

@@ -5,7 +5,7 @@ use mathlib.Core.Bool.{false}
 use mathlib.Core.Path.{ap}
 use Rattle.typings.specs.TypingText.{untyped, tableOf}
 use Rattle.model.specs.declared.Typing.{Typing}
-use Rattle.reading.specs.Policy.{padded}
+use Rattle.tables.specs.Padded.{padded}
 use Rattle.roles.specs.declared.RoleSet.{RoleSet}
 use Rattle.typings.proofs.no_typing.Statement.{statement}
 use Rattle.typings.proofs.no_typing.Tie as tie

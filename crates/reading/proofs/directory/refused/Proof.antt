@@ -5,7 +5,8 @@ use lib.ListN.{replicate}
 use mathlib.Core.Bool.{false}
 use mathlib.Core.Path.{ap}
 use Rattle.model.specs.Policy.{nobody}
-use Rattle.reading.specs.Policy.{padded, nothing, countsOf}
+use Rattle.reading.specs.Policy.{nothing, countsOf}
+use Rattle.tables.specs.Padded.{padded}
 use Rattle.reading.specs.Directory.{laidWith, refusedDirectory}
 use Rattle.reading.specs.declared.directory.Directory.{Directory}
 use Rattle.roles.specs.declared.RoleSet.{RoleSet}

@@ -6,9 +6,9 @@ use lib.ListN.{length, getD, set, replicate, length-append, length-set, length-r
 use lib.Seq.{set-append-left}
 use native.Mathlib.Nat.{add-zero, zero-add, suc-add}
 use native.Mathlib.Omega.{arith}
 use Rattle.tables.specs.declared.Name.{Name}
 use Rattle.tables.specs.Names.{wordsOf, rows, rows-laid, stored}
-use Rattle.reading.specs.Policy.{padded}
+use Rattle.tables.specs.Padded.{padded}
 
 -- a store behind a list
 set-behind {ℓ} : {A : Type ℓ} (xs ys : List A) (i : ℕ) (a : A) → set (xs ++ ys) (length xs + i) a ≡ xs ++ set ys i a

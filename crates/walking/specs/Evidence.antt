@@ -5,8 +5,8 @@ use mathlib.Core.List.{List, [], _∷_}
 use mathlib.Core.Logic.{_↔_}
 use mathlib.Core.Path.{_≡_, refl, sym, subst, _∙_}
 use lib.ListN.{length}
-use Rattle.reading.specs.Texts.{Judged, goes, ends, bad}
-use Rattle.reading.specs.Exact.{Unbroken, Above, LineAt, ReadAs, Refusal}
+use Rattle.walking.specs.Texts.{Judged, goes, ends, bad}
+use Rattle.walking.specs.Meaning.{Unbroken, Above, LineAt, ReadAs, Refusal}
 
 -- What the tests of a line make of it: malformed, then names; then it is the last line, or what it says is added.
 unfoldable pub turned : {S : Type 0} (formed known last : Bool) → S → Judged S

@@ -9,7 +9,7 @@ use lib.ListN.{length}
 use native.Mathlib.Decide.{decLt, ℕ-discrete}
 use native.Mathlib.Omega.{arith}
 use Rattle.text.specs.Pieces.{split, onto}
-use Rattle.reading.specs.Texts.{Judged, goes, ends, bad, Reading, read, refused, readLines, readText, onward, closing, lines-end, lines-next, onward-goes, onward-bad, onward-ends, closing-none, closing-some, text-long, text-fits}
+use Rattle.walking.specs.Texts.{Judged, goes, ends, bad, Reading, read, refused, readLines, readText, onward, closing, lines-end, lines-next, onward-goes, onward-bad, onward-ends, closing-none, closing-some, text-long, text-fits}
 
 -- The byte that ends a line.
 abbrev pub LF : ℕ

@@ -1,0 +1,8 @@
+-- How a text is walked line by line, what it means that it is read or refused, and the tests of a line in turn.
+pub mod Turns
+pub mod Texts
+pub mod Walk
+pub mod FirstLine
+pub mod Meaning
+pub mod Evidence
+pub mod Kept
