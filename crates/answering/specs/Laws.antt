@@ -120,7 +120,7 @@ module _ (policy evidence : List ℕ) where
     pub over-typing : isTyping evidence ≡ true → unnamedAnswer (typingAnswer (R .counts) (subjectIn (D .persons) R) (readTyping (rows (R .counts .roles) (D .roles)) evidence)) ≡ namedAnswer policy evidence
     over-typing kind =
         ap₂ (λ (c : Counts) (names : List Name). unnamedAnswer (typingAnswer c (subjectIn (D .persons) R) (readTyping names evidence))) (counts-laid (t .laid)) (roles-laid (t .laid))
-        ∙ ap (λ (subject : Subject). unnamedAnswer (typingAnswer (countsOf (t .said)) subject (readTyping (t .said .roles) evidence))) (ap (subjectIn (D .persons)) (t .laid .rules) ∙ subject-laid (t .laid .bounded) (people-laid (t .laid)))
+        ∙ ap (λ (subject : Subject). unnamedAnswer (typingAnswer (countsOf (t .said)) subject (readTyping (t .said .roles) evidence))) (ap (subjectIn (D .persons)) (t .laid .rules) ∙ subject-laid (t .laid .sound) (people-laid (t .laid)))
         ∙ typing-unnamed (t .said .users) (countsOf (t .said)) (subjectOf (t .said)) (readTyping (t .said .roles) evidence)
         ∙ read-answer kind
 

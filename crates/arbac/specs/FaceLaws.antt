@@ -9,7 +9,7 @@ use native.Mathlib.Omega.{arith}
 use Rattle.model.specs.Policy.{State, Run, Present}
 use Rattle.model.specs.Policy as model
 use Rattle.model.specs.States.{present-back}
-use Rattle.reading.specs.Kept.{read-bounded}
+use Rattle.reading.specs.Sound.{read-sound}
 use Rattle.following.specs.Exact.{follows-run}
 use Rattle.writing.specs.Written.{put}
 use Rattle.summing.specs.Outcome.{Outcome, answerIn, bufferAfter, Meets}
@@ -36,8 +36,8 @@ user-listed policy evidence is = record { below = λ steps user goal attacked. g
     go steps user goal attacked =
         let texts = attacked-exact policy evidence steps user goal .0 attacked in
         let found = texts .holds .first in
-        let bounded = read-bounded policy (texts .said) (texts .reads) in
-        omega (arith, present-first (follows-run (texts .holds .follows)) (found .present) .listed, found .user-number, bounded .users, bounded .holdings)
+        let sound = read-sound policy (texts .reads) in
+        omega (arith, present-first (follows-run (texts .holds .follows)) (found .present) .listed, found .user-number, sound .users .most, sound .people)
 
 -- ---- told in a lent array
 

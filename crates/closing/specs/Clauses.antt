@@ -7,13 +7,13 @@ use native.Mathlib.Decide.{decLt}
 use native.Mathlib.Omega.{arith}
 use Rattle.roles.specs.declared.RoleSet.{RoleSet}
 use Rattle.roles.specs.Sets.{emptySet, hasRole}
-use Rattle.roles.specs.Members.{_∈_, Within, Sized, empty-none, union-cases, union-left, union-right}
+use Rattle.roles.specs.Members.{_∈_, Within, Sized, empty-none, union-cases, union-left, union-right, union-sized}
 use Rattle.model.specs.declared.Typing.{Typing as Table}
 use Rattle.model.specs.Typing.{Typing}
 use Rattle.model.specs.Meaning.{meaning}
 use Rattle.model.specs.Closure.{Closed}
 use Rattle.sheets.specs.Turned.{setsOf, turnedOf}
-use Rattle.sheets.specs.Members.{below-exact, sets-exact, union-sized, below-sized, sets-sized}
+use Rattle.sheets.specs.Members.{below-exact, sets-exact, below-sized, sets-sized}
 use Rattle.closing.specs.declared.Pair.{Pair}
 use Rattle.closing.specs.Rounds.{linksOf, linksFor, roundOf}
 

@@ -6,7 +6,7 @@ use lib.ListN.{take}
 use Rattle.walking.specs.Texts.{read}
 use Rattle.reading.specs.Policy.{Said, readPolicy}
 use Rattle.typings.specs.TypingText.{Typed, readTyping}
-use Rattle.rereading.specs.Named.{names-read}
+use Rattle.reading.specs.Sound.{read-sound}
 use Rattle.rereading.specs.Fits.{Fits, fits-read}
 use Rattle.summing.specs.declared.SumAnswer.{SumAnswer}
 use Rattle.summing.specs.SumLaws.{sumTyped}
@@ -25,7 +25,7 @@ use Rattle.composing.specs.Together.{two-fits}
 -- The sum of two typings over a policy's roles, where its text fits.
 pub text-back : (policy : List ℕ) {s : Said} {t u : Typed} {room : ℕ} → readPolicy policy ≡ read s → Fits (s .roles) t → Fits (s .roles) u → TextFits room (sumText s t u) → readTyping (s .roles) (sumText s t u) ≡ read (sumTyped t u)
 unfolding sumText
-text-back policy reads one two fit = sum-back one two (names-read policy reads) (fit .limit)
+text-back policy reads one two fit = sum-back one two (read-sound policy reads .roles .named) (fit .limit)
 
 -- What sum writes, read over the same policy, is the sum.
 pub sum-reads-back : (policy first second : List ℕ) (room : ℕ) {pinned written : ℕ} → answerIn (sumOutcome policy first second room) ≡ SumAnswer.Summed pinned written → (buffer : List ℕ)

@@ -8,8 +8,7 @@ use lib.ListN.{length, replicate, length-append, length-replicate}
 use native.Mathlib.Omega.{arith}
 use Rattle.roles.specs.declared.RoleSet.{RoleSet}
 use Rattle.roles.specs.Sets.{emptySet, unionOf}
-use Rattle.roles.specs.Members.{union-cases}
-use Rattle.sheets.specs.Members.{union-sized}
+use Rattle.roles.specs.Members.{union-cases, union-sized}
 use Rattle.model.specs.declared.Typing.{Typing as Table}
 use Rattle.model.specs.Typing.{sum}
 use Rattle.model.specs.Meaning.{meaning}
@@ -18,8 +17,9 @@ use Rattle.walking.specs.Texts.{read}
 use Rattle.tables.specs.Padded.{padded}
 use Rattle.typings.specs.TypingText.{Typed, readTyping, tableOf}
 use Rattle.spelling.specs.TypingText.{typingText}
-use Rattle.rereading.specs.Named.{Named}
-use Rattle.rereading.specs.Fits.{Inside, Fits}
+use Rattle.tables.specs.Named.{Named}
+use Rattle.rereading.specs.Fits.{Fits}
+use Rattle.fields.specs.Roles.{Inside}
 use Rattle.rereading.specs.Back.{reads-back}
 use Rattle.summing.specs.Sums.{paired, sumOf}
 use Rattle.summing.specs.SumLaws.{Full, sum-meaning, sumTyped, Even, table-sum}

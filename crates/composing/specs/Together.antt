@@ -11,7 +11,7 @@ use Rattle.model.specs.Sum as model
 use Rattle.tables.specs.declared.Name.{Name}
 use Rattle.walking.specs.Texts.{read}
 use Rattle.reading.specs.Policy.{Said, policyOf, readPolicy}
-use Rattle.reading.specs.Kept.{read-bounded}
+use Rattle.reading.specs.Sound.{read-sound}
 use Rattle.typings.specs.TypingText.{Typed, readTyping, tableOf}
 use Rattle.rereading.specs.Fits.{Fits, fits-read}
 use Rattle.summing.specs.Sums.{sumOf}
@@ -29,7 +29,7 @@ two-fits typing₂ {s′ = s′} {u = u} typing-two pass = subst⁻¹ (λ (names
 pub sum-accepted : (policy₁ typing₁ typing₂ : List ℕ) {s s′ : Said} {t u : Typed} → readPolicy policy₁ ≡ read s → readTyping (s .roles) typing₁ ≡ read t → readTyping (s′ .roles) typing₂ ≡ read u → Passing s t s′ u
     → Accepted (meaning (sumOf (tableOf t) (tableOf u))) (joint (policyOf s) (policyOf s′)) (s .holdings)
 sum-accepted policy₁ typing₁ typing₂ {s} {s′} policy-one typing-one typing-two pass =
-    let means = sum-means (fits-read (s .roles) typing₁ typing-one) (two-fits typing₂ typing-two pass) (read-bounded policy₁ s policy-one .roles) in
+    let means = sum-means (fits-read (s .roles) typing₁ typing-one) (two-fits typing₂ typing-two pass) (read-sound policy₁ policy-one .roles .most) in
     subst⁻¹ (λ (Γ : Typing). Accepted Γ (joint (policyOf s) (policyOf s′)) (s .holdings)) means (model.sum-accepted (pass .compatible))
 
 module _ (policy₁ typing₁ policy₂ typing₂ : List ℕ) (room : ℕ) (success : isMerged (answerIn (mergeOutcome policy₁ typing₁ policy₂ typing₂ room)) ≡ true) where

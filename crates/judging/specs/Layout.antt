@@ -12,7 +12,7 @@ use Rattle.model.specs.Policy.{Policy, nobody}
 use Rattle.reading.specs.Policy.{Said, countsOf, noAssign, noRevoke, policyOf}
 use Rattle.tables.specs.Padded.{padded}
 use Rattle.reading.specs.Rules.{laidWith, laidOut}
-use Rattle.reading.specs.Bounded.{Bounded}
+use Rattle.reading.specs.Sound.{Sound}
 use Rattle.judging.specs.Verdict.{Subject, subjectOf, policyIn, subjectIn, judgedRules, judgedTyping, rulesVerdict, typingVerdict}
 
 -- as many elements of an array as were laid out in it
@@ -22,28 +22,28 @@ counted size filling xs {count} many fits =
     take-at xs (replicate (size - length xs) filling) (min count size) (omega (arith, many))
 
 -- Rules laid out are judged as what their text says: within the limits every count is the whole.
-pub policy-laid : {s : Said} → Bounded s → policyIn (laidOut s) ≡ policyOf s
+pub policy-laid : {s : Said} → Sound s → policyIn (laidOut s) ≡ policyOf s
 unfolding policyIn policyOf laidOut laidWith countsOf
 policy-laid {s} b = λ i. record {
-  assigns = counted 256 noAssign (s .assigns) refl (b .assigns) i;
-  revokes = counted 256 noRevoke (s .revokes) refl (b .revokes) i;
-  goals = counted 32 emptySet (s .goals) refl (b .goals) i;
+  assigns = counted 256 noAssign (s .assigns) refl (b .assigns .most) i;
+  revokes = counted 256 noRevoke (s .revokes) refl (b .revokes .most) i;
+  goals = counted 32 emptySet (s .goals) refl (b .goals .most) i;
 }
 
 -- So is a policy, with its people.
-pub subject-laid : {s : Said} {persons : List Person} → Bounded s → persons ≡ padded 64 nobody (s .holdings) → subjectIn persons (laidOut s) ≡ subjectOf s
+pub subject-laid : {s : Said} {persons : List Person} → Sound s → persons ≡ padded 64 nobody (s .holdings) → subjectIn persons (laidOut s) ≡ subjectOf s
 unfolding subjectIn subjectOf laidOut laidWith countsOf
 subject-laid {s} b people = λ i. record {
   roles = length (s .roles);
-  holdings = (ap (take (min (length (s .users)) 64)) people ∙ counted 64 nobody (s .holdings) (sym (b .holdings)) (omega (arith, b .holdings, b .users))) i;
+  holdings = (ap (take (min (length (s .users)) 64)) people ∙ counted 64 nobody (s .holdings) (sym (b .people)) (omega (arith, b .people, b .users .most))) i;
   policy = policy-laid b i;
 }
 
 -- The verdicts on a policy laid out are those on its text.
-pub rules-laid : {s : Said} (t : Table) → Bounded s → judgedRules (laidOut s .counts .roles) (policyIn (laidOut s)) t ≡ rulesVerdict s t
+pub rules-laid : {s : Said} (t : Table) → Sound s → judgedRules (laidOut s .counts .roles) (policyIn (laidOut s)) t ≡ rulesVerdict s t
 unfolding rulesVerdict laidOut laidWith countsOf
 rules-laid {s} t b = ap (λ (policy : Policy). judgedRules (length (s .roles)) policy t) (policy-laid b)
 
-pub typing-laid : {s : Said} {persons : List Person} (t : Table) → Bounded s → persons ≡ padded 64 nobody (s .holdings) → judgedTyping (subjectIn persons (laidOut s)) t ≡ typingVerdict s t
+pub typing-laid : {s : Said} {persons : List Person} (t : Table) → Sound s → persons ≡ padded 64 nobody (s .holdings) → judgedTyping (subjectIn persons (laidOut s)) t ≡ typingVerdict s t
 unfolding typingVerdict
 typing-laid t b people = ap (λ (subject : Subject). judgedTyping subject t) (subject-laid b people)

@@ -1,22 +1,17 @@
 -- One line of a policy: its kind, and when it is malformed, above a limit or names what is undeclared (document 01, "The texts").
-use Prim.Native.Nat.{ℕ, _<_, max}
-use mathlib.Core.Bool.{Bool, true, false, cond, not, _&&_, and-eq-true-iff}
+use Prim.Native.Nat.{ℕ}
+use mathlib.Core.Bool.{Bool, true, false, cond, not, _&&_}
 use mathlib.Core.List.{List, [], _∷_}
-use mathlib.Core.Path.{_≡_, refl, sym, ap, ap₂, subst, _∙_}
-use borrow.Author.Tests.{ltb-true}
-use native.Mathlib.Omega.{arith}
 use lib.Dec.{leb, ltb, eqb}
-use lib.ListN.{length}
 use Rattle.tables.specs.declared.Name.{Name}
 use Rattle.text.specs.Forms.{bytes, isName, isSet, isLabel}
 use Rattle.tables.specs.Names.{packed}
-use Rattle.text.specs.Pieces.{split, sameBytes, split-piece}
-use Rattle.fields.specs.declared.NameRead.{NameRead}
-use Rattle.fields.specs.declared.SetRead.{SetRead}
+use Rattle.text.specs.Pieces.{split, sameBytes}
+use Rattle.walking.specs.Turns.{Test, test, inTurn}
 use Rattle.lines.specs.declared.Counts.{Counts}
 use Rattle.lines.specs.declared.Entry.{Entry}
 use Rattle.lines.specs.declared.PolicyLine.{PolicyLine}
-use Rattle.fields.specs.Fields.{placed, isDeclared, allDeclared, rolesOf, faultOf, nameRead, setRead, worse, at-place, roles-read, set-fault, name-fault}
+use Rattle.fields.specs.Fields.{placed, isDeclared, allDeclared, rolesOf}
 
 -- A line by its first field and the number of its fields.
 pub data Line : Type 0 where
@@ -55,267 +50,102 @@ lineOf (w ∷ a ∷ b ∷ c ∷ []) = other
 lineOf (w ∷ a ∷ b ∷ c ∷ d ∷ []) = fiveFields w a b c d
 lineOf (w ∷ a ∷ b ∷ c ∷ d ∷ e ∷ more) = other
 
+-- The kinds of lines in the order in which they come, with room between them. 0 is the stage before the header.
+abbrev pub headerKind : ℕ
+headerKind = 10
+
+abbrev pub roleKind : ℕ
+roleKind = 20
+
+abbrev pub userKind : ℕ
+userKind = 30
+
+abbrev pub hasKind : ℕ
+hasKind = 40
+
+abbrev pub assignKind : ℕ
+assignKind = 50
+
+abbrev pub revokeKind : ℕ
+revokeKind = 60
+
+abbrev pub goalKind : ℕ
+goalKind = 70
+
+abbrev pub endKind : ℕ
+endKind = 80
+
 -- The header comes first, then role, user, has, assign, revoke and goal lines in this order: a line of one kind may follow
--- lines of its own kind and of those before it.
+-- the header and lines of its own kind and of those before it.
 unfoldable pub inOrder : (stage kind : ℕ) → Bool
-inOrder stage kind = leb 1 stage && leb stage kind
+inOrder stage kind = leb headerKind stage && leb stage kind
 
--- The line has its form, stands in its order and repeats no role or user name. `end` comes after a goal; `goal` with `-` is
--- malformed.
-unfoldable pub wellFormed : Counts → (roles users : List Name) → Line → Bool
-wellFormed c roles users (header edition) = eqb (c .stage) 0 && sameBytes edition (bytes "1")
-wellFormed c roles users (role name) = inOrder (c .stage) 1 && isName name && not (isDeclared roles name)
-wellFormed c roles users (user name clearance) = inOrder (c .stage) 2 && isName name && isLabel clearance && not (isDeclared users name)
-wellFormed c roles users (has holder held) = inOrder (c .stage) 3 && (isName holder && isName held)
-wellFormed c roles users (assign admin positive negative target) =
-    inOrder (c .stage) 4 && (isName admin && isSet positive && (isSet negative && isName target))
-wellFormed c roles users (revoke admin target) = inOrder (c .stage) 5 && (isName admin && isName target)
-wellFormed c roles users (goal set) = inOrder (c .stage) 6 && not (sameBytes set (bytes "-")) && isSet set
-wellFormed c roles users end = eqb (c .stage) 6
-wellFormed c roles users other = false
+-- What is asked of a line, and what it says.
+pub record Asked : Type 0 where
+  -- it has its form, stands in its order and repeats no role or user name
+  pub formed : Bool
+  -- at most 128 roles, 64 users, 256 assign lines, 256 revoke lines, 32 goals
+  pub within : Bool
+  -- every name that it uses is declared above
+  pub known : Bool
+  pub says : Entry
 
--- At most 128 roles, 64 users, 256 assign lines, 256 revoke lines, 32 goals.
-unfoldable pub withinLimit : Counts → Line → Bool
-withinLimit c (header edition) = true
-withinLimit c (role name) = ltb (c .roles) 128
-withinLimit c (user name clearance) = ltb (c .users) 64
-withinLimit c (has holder held) = true
-withinLimit c (assign admin positive negative target) = ltb (c .assigns) 256
-withinLimit c (revoke admin target) = ltb (c .revokes) 256
-withinLimit c (goal set) = ltb (c .goals) 32
-withinLimit c end = true
-withinLimit c other = true
-
--- Every name that the line uses is declared above.
-unfoldable pub declared : (roles users : List Name) → Line → Bool
-declared roles users (header edition) = true
-declared roles users (role name) = true
-declared roles users (user name clearance) = true
-declared roles users (has holder held) = isDeclared users holder && isDeclared roles held
-declared roles users (assign admin positive negative target) =
-    isDeclared roles admin && allDeclared roles positive && (allDeclared roles negative && isDeclared roles target)
-declared roles users (revoke admin target) = isDeclared roles admin && isDeclared roles target
-declared roles users (goal set) = allDeclared roles set
-declared roles users end = true
-declared roles users other = true
-
--- What the line says.
-unfoldable pub entry : (roles users : List Name) → Line → Entry
-entry roles users (header edition) = Entry.Header
-entry roles users (role name) = Entry.Role (packed name)
-entry roles users (user name clearance) = Entry.User (packed name) (sameBytes clearance (bytes "H"))
-entry roles users (has holder held) = Entry.Has (placed users holder) (placed roles held)
-entry roles users (assign admin positive negative target) =
-    Entry.Assign (record { admin = placed roles admin; positive = rolesOf roles positive; negative = rolesOf roles negative; target = placed roles target })
-entry roles users (revoke admin target) = Entry.Revoke (record { admin = placed roles admin; target = placed roles target })
-entry roles users (goal set) = Entry.Goal (rolesOf roles set)
-entry roles users end = Entry.End
-entry roles users other = Entry.End
+-- Each kind of line. `end` comes after a goal; `goal` with `-` is malformed.
+unfoldable pub asked : Counts → (roles users : List Name) → Line → Asked
+asked c roles users (header edition) = record { formed = eqb (c .stage) 0 && sameBytes edition (bytes "1"); within = true; known = true; says = Entry.Header }
+asked c roles users (role name) = record {
+  formed = inOrder (c .stage) roleKind && isName name && not (isDeclared roles name);
+  within = ltb (c .roles) 128;
+  known = true;
+  says = Entry.Role (packed name);
+}
+asked c roles users (user name clearance) = record {
+  formed = inOrder (c .stage) userKind && isName name && isLabel clearance && not (isDeclared users name);
+  within = ltb (c .users) 64;
+  known = true;
+  says = Entry.User (packed name) (sameBytes clearance (bytes "H"));
+}
+asked c roles users (has holder held) = record {
+  formed = inOrder (c .stage) hasKind && (isName holder && isName held);
+  within = true;
+  known = isDeclared users holder && isDeclared roles held;
+  says = Entry.Has (placed users holder) (placed roles held);
+}
+asked c roles users (assign admin positive negative target) = record {
+  formed = inOrder (c .stage) assignKind && (isName admin && isSet positive && (isSet negative && isName target));
+  within = ltb (c .assigns) 256;
+  known = isDeclared roles admin && allDeclared roles positive && (allDeclared roles negative && isDeclared roles target);
+  says = Entry.Assign (record { admin = placed roles admin; positive = rolesOf roles positive; negative = rolesOf roles negative; target = placed roles target });
+}
+asked c roles users (revoke admin target) = record {
+  formed = inOrder (c .stage) revokeKind && (isName admin && isName target);
+  within = ltb (c .revokes) 256;
+  known = isDeclared roles admin && isDeclared roles target;
+  says = Entry.Revoke (record { admin = placed roles admin; target = placed roles target });
+}
+asked c roles users (goal set) = record {
+  formed = inOrder (c .stage) goalKind && not (sameBytes set (bytes "-")) && isSet set;
+  within = ltb (c .goals) 32;
+  known = allDeclared roles set;
+  says = Entry.Goal (rolesOf roles set);
+}
+asked c roles users end = record { formed = eqb (c .stage) goalKind; within = true; known = true; says = Entry.End }
+asked c roles users other = record { formed = false; within = true; known = true; says = Entry.End }
 
 -- Within a line, malformed, then limit, then names.
-unfoldable pub inTurn : (formed limited declared : Bool) → Entry → PolicyLine
-inTurn formed limited declared e = cond formed (cond limited (cond declared (PolicyLine.Good e) (PolicyLine.Bad 13)) (PolicyLine.Bad 12)) (PolicyLine.Bad 11)
+unfoldable pub tests : (formed within known : Bool) → List Test
+tests formed within known = test 11 formed ∷ test 12 within ∷ test 13 known ∷ []
+
+unfoldable pub comesTo : (formed within known : Bool) → Entry → PolicyLine
+comesTo formed within known e = inTurn PolicyLine.Bad (tests formed within known) (PolicyLine.Good e)
 
 unfoldable pub judged : Counts → (roles users : List Name) → Line → PolicyLine
-judged c roles users line = inTurn (wellFormed c roles users line) (withinLimit c line) (declared roles users line) (entry roles users line)
+judged c roles users line = let a = asked c roles users line in comesTo (a .formed) (a .within) (a .known) (a .says)
 
 unfoldable pub policyLine : Counts → (roles users : List Name) → List ℕ → PolicyLine
 policyLine c roles users line = judged c roles users (lineOf (split 9 line))
 
--- A line whose fields have one fault together is judged by that fault; what it says counts only where there is none.
-pub by-fault : (ordered limited formed known : Bool) (e e′ : Entry) → (formed ≡ true → known ≡ true → e ≡ e′)
-    → inTurn (ordered && ltb (faultOf formed known) 2) limited (eqb (faultOf formed known) 0) e ≡ inTurn (ordered && formed) limited known e′
-unfolding inTurn faultOf
-by-fault true limited true true e e′ same = ap (λ (x : Entry). cond limited (PolicyLine.Good x) (PolicyLine.Bad 12)) (same refl refl)
-by-fault true limited true false e e′ same = refl
-by-fault true limited false known e e′ same = refl
-by-fault false limited formed known e e′ same = refl
-
--- ---- each kind of line, from what a reader finds
-
--- a line of two names: their faults, read against their tables, give the line's fault
-two-names : (first second : List Name) (a b : List ℕ) (fault : ℕ) (A B : NameRead) → A ≡ nameRead first a → B ≡ nameRead second b → fault ≡ max (A .fault) (B .fault)
-    → fault ≡ faultOf (isName a && isName b) (isDeclared first a && isDeclared second b)
-unfolding nameRead
-two-names first second a b fault A B hA hB worst =
-    worst ∙ ap₂ (λ (x y : NameRead). max (x .fault) (y .fault)) hA hB ∙ worse (isName a) (isDeclared first a) (isName b) (isDeclared second b)
-
-pub has-judged : (c : Counts) (roles users : List Name) (holder held : List ℕ) {U R : NameRead} {fault : ℕ} {order : Bool} {answer : PolicyLine}
-    → U ≡ nameRead users holder → R ≡ nameRead roles held → fault ≡ max (U .fault) (R .fault) → order ≡ inOrder (c .stage) 3
-    → answer ≡ inTurn (order && ltb fault 2) true (eqb fault 0) (Entry.Has (U .place) (R .place)) → answer ≡ judged c roles users (has holder held)
-unfolding judged wellFormed withinLimit declared entry nameRead
-has-judged c roles users holder held {U} {R} {fault} hU hR worst ordered given =
-    given
-    ∙ ap₂ (λ (o : Bool) (f : ℕ). inTurn (o && ltb f 2) true (eqb f 0) (Entry.Has (U .place) (R .place))) ordered (two-names users roles holder held fault U R hU hR worst)
-    ∙ by-fault (inOrder (c .stage) 3) true _ _ _ _ (λ f k. ap₂ (λ (x y : NameRead). Entry.Has (x .place) (y .place)) hU hR)
-
-pub revoke-judged : (c : Counts) (roles users : List Name) (admin target : List ℕ) {A T : NameRead} {fault : ℕ} {order : Bool} {answer : PolicyLine}
-    → A ≡ nameRead roles admin → T ≡ nameRead roles target → fault ≡ max (A .fault) (T .fault) → order ≡ inOrder (c .stage) 5
-    → answer ≡ inTurn (order && ltb fault 2) (ltb (c .revokes) 256) (eqb fault 0) (Entry.Revoke (record { admin = A .place; target = T .place })) → answer ≡ judged c roles users (revoke admin target)
-unfolding judged wellFormed withinLimit declared entry nameRead
-revoke-judged c roles users admin target {A} {T} {fault} hA hT worst ordered given =
-    given
-    ∙ ap₂ (λ (o : Bool) (f : ℕ). inTurn (o && ltb f 2) (ltb (c .revokes) 256) (eqb f 0) (Entry.Revoke (record { admin = A .place; target = T .place }))) ordered (two-names roles roles admin target fault A T hA hT worst)
-    ∙ by-fault (inOrder (c .stage) 5) (ltb (c .revokes) 256) _ _ _ _ (λ f k. ap₂ (λ (x y : NameRead). Entry.Revoke (record { admin = x .place; target = y .place })) hA hT)
-
-pub goal-judged : (c : Counts) (roles users : List Name) (set : List ℕ) {S : SetRead} {order dash : Bool} {answer : PolicyLine}
-    → S ≡ setRead roles set → order ≡ inOrder (c .stage) 6 → dash ≡ sameBytes set (bytes "-")
-    → answer ≡ inTurn ((order && not dash) && ltb (S .fault) 2) (ltb (c .goals) 32) (eqb (S .fault) 0) (Entry.Goal (S .roles)) → answer ≡ judged c roles users (goal set)
-unfolding judged wellFormed withinLimit declared entry
-goal-judged c roles users set {S} {order} {dash} hS ordered dashed given =
-    given
-    ∙ ap₂ (λ (o : Bool) (f : ℕ). inTurn (o && ltb f 2) (ltb (c .goals) 32) (eqb f 0) (Entry.Goal (S .roles))) (ap₂ (λ (x y : Bool). x && not y) ordered dashed) (set-fault roles set hS)
-    ∙ by-fault (inOrder (c .stage) 6 && not (sameBytes set (bytes "-"))) (ltb (c .goals) 32) _ _ _ _ (λ f k. ap Entry.Goal (roles-read roles set hS f k))
-
-pub assign-judged : (c : Counts) (roles users : List Name) (admin positive negative target : List ℕ) {A T : NameRead} {P N : SetRead} {first second fault : ℕ} {order : Bool} {answer : PolicyLine}
-    → A ≡ nameRead roles admin → P ≡ setRead roles positive → N ≡ setRead roles negative → T ≡ nameRead roles target → first ≡ max (A .fault) (P .fault) → second ≡ max (N .fault) (T .fault)
-    → fault ≡ max first second → order ≡ inOrder (c .stage) 4
-    → answer ≡ inTurn (order && ltb fault 2) (ltb (c .assigns) 256) (eqb fault 0) (Entry.Assign (record { admin = A .place; positive = P .roles; negative = N .roles; target = T .place }))
-    → answer ≡ judged c roles users (assign admin positive negative target)
-unfolding judged wellFormed withinLimit declared entry
-assign-judged c roles users admin positive negative target {A} {T} {P} {N} {first} {second} {fault} hA hP hN hT one two worst ordered given =
-    given
-    ∙ ap₂ (λ (o : Bool) (f : ℕ). inTurn (o && ltb f 2) (ltb (c .assigns) 256) (eqb f 0) (Entry.Assign (record { admin = A .place; positive = P .roles; negative = N .roles; target = T .place }))) ordered all
-    ∙ by-fault (inOrder (c .stage) 4) (ltb (c .assigns) 256) _ _ _ _ (λ f k. same f k)
-  where
-    left : first ≡ faultOf (isName admin && isSet positive) (isDeclared roles admin && allDeclared roles positive)
-    left = one ∙ ap₂ max (name-fault roles admin hA) (set-fault roles positive hP) ∙ worse (isName admin) (isDeclared roles admin) (isSet positive) (allDeclared roles positive)
-
-    right : second ≡ faultOf (isSet negative && isName target) (allDeclared roles negative && isDeclared roles target)
-    right = two ∙ ap₂ max (set-fault roles negative hN) (name-fault roles target hT) ∙ worse (isSet negative) (allDeclared roles negative) (isName target) (isDeclared roles target)
-
-    all : fault ≡ faultOf (isName admin && isSet positive && (isSet negative && isName target)) (isDeclared roles admin && allDeclared roles positive && (allDeclared roles negative && isDeclared roles target))
-    all = worst ∙ ap₂ max left right ∙ worse (isName admin && isSet positive) (isDeclared roles admin && allDeclared roles positive) (isSet negative && isName target) (allDeclared roles negative && isDeclared roles target)
-
-    same : (isName admin && isSet positive && (isSet negative && isName target)) ≡ true → (isDeclared roles admin && allDeclared roles positive && (allDeclared roles negative && isDeclared roles target)) ≡ true
-        → Entry.Assign (record { admin = A .place; positive = P .roles; negative = N .roles; target = T .place })
-        ≡ Entry.Assign (record { admin = placed roles admin; positive = rolesOf roles positive; negative = rolesOf roles negative; target = placed roles target })
-    same f k =
-        let forms = and-eq-true-iff (isName admin && isSet positive) (isSet negative && isName target) .0 f in
-        let knowns = and-eq-true-iff (isDeclared roles admin && allDeclared roles positive) (allDeclared roles negative && isDeclared roles target) .0 k in
-        let plus = roles-read roles positive hP (and-eq-true-iff (isName admin) (isSet positive) .0 (forms .0) .1) (and-eq-true-iff (isDeclared roles admin) (allDeclared roles positive) .0 (knowns .0) .1) in
-        let minus = roles-read roles negative hN (and-eq-true-iff (isSet negative) (isName target) .0 (forms .1) .0) (and-eq-true-iff (allDeclared roles negative) (isDeclared roles target) .0 (knowns .1) .0) in
-        λ i. Entry.Assign (record { admin = at-place roles admin hA i; positive = plus i; negative = minus i; target = at-place roles target hT i })
-
--- ---- a line by its number of fields, from the tabs that a reader finds
-
--- the words that begin a line of two fields
-pub two-role : (word field : List ℕ) → sameBytes word (bytes "role") ≡ true → role field ≡ twoFields word field
-unfolding twoFields
-two-role word field e = rw e
-
-pub two-goal : (word field : List ℕ) → sameBytes word (bytes "role") ≡ false → sameBytes word (bytes "goal") ≡ true → goal field ≡ twoFields word field
-unfolding twoFields
-two-goal word field e f = rw (e, f)
-
-pub two-header : (word field : List ℕ) → sameBytes word (bytes "role") ≡ false → sameBytes word (bytes "goal") ≡ false → sameBytes word (bytes "arbac") ≡ true → header field ≡ twoFields word field
-unfolding twoFields
-two-header word field e f g = rw (e, f, g)
-
-pub two-other : (word field : List ℕ) → sameBytes word (bytes "role") ≡ false → sameBytes word (bytes "goal") ≡ false → sameBytes word (bytes "arbac") ≡ false → other ≡ twoFields word field
-unfolding twoFields
-two-other word field e f g = rw (e, f, g)
-
--- of three
-pub three-has : (word a b : List ℕ) → sameBytes word (bytes "has") ≡ true → has a b ≡ threeFields word a b
-unfolding threeFields
-three-has word a b e = rw e
-
-pub three-revoke : (word a b : List ℕ) → sameBytes word (bytes "has") ≡ false → sameBytes word (bytes "revoke") ≡ true → revoke a b ≡ threeFields word a b
-unfolding threeFields
-three-revoke word a b e f = rw (e, f)
-
-pub three-user : (word a b : List ℕ) → sameBytes word (bytes "has") ≡ false → sameBytes word (bytes "revoke") ≡ false → sameBytes word (bytes "user") ≡ true → user a b ≡ threeFields word a b
-unfolding threeFields
-three-user word a b e f g = rw (e, f, g)
-
-pub three-other : (word a b : List ℕ) → sameBytes word (bytes "has") ≡ false → sameBytes word (bytes "revoke") ≡ false → sameBytes word (bytes "user") ≡ false → other ≡ threeFields word a b
-unfolding threeFields
-three-other word a b e f g = rw (e, f, g)
-
--- a line of no kind is malformed
-pub other-judged : (c : Counts) (roles users : List Name) → PolicyLine.Bad 11 ≡ judged c roles users other
-unfolding judged inTurn wellFormed
-other-judged c roles users = refl
-
-pub one-judged : (c : Counts) (roles users : List Name) (word : List ℕ) {is : Bool} {answer : PolicyLine} → is ≡ sameBytes word (bytes "end")
-    → answer ≡ inTurn (is && eqb (c .stage) 6) true true Entry.End → answer ≡ judged c roles users (oneField word)
-unfolding judged inTurn wellFormed withinLimit declared entry oneField
-one-judged c roles users word {is} same given = given ∙ ap (λ (b : Bool). inTurn (b && eqb (c .stage) 6) true true Entry.End) same ∙ go (sameBytes word (bytes "end"))
-  where
-    go : (b : Bool) → inTurn (b && eqb (c .stage) 6) true true Entry.End ≡ judged c roles users (cond b end other)
-    go true = refl
-    go false = refl
-
--- ---- the fields of a line
-
-pub line-five : (line : List ℕ) {w a b c d : List ℕ} → split 9 line ≡ w ∷ a ∷ b ∷ c ∷ d ∷ [] → sameBytes w (bytes "assign") ≡ true → assign a b c d ≡ lineOf (split 9 line)
-unfolding lineOf fiveFields
-line-five line {w} {a} {b} {c} {d} fields is = sym (ap lineOf fields ∙ ap (λ (t : Bool). cond t (assign a b c d) other) is)
-
-pub line-five-other : (line : List ℕ) {w a b c d : List ℕ} → split 9 line ≡ w ∷ a ∷ b ∷ c ∷ d ∷ [] → sameBytes w (bytes "assign") ≡ false → other ≡ lineOf (split 9 line)
-unfolding lineOf fiveFields
-line-five-other line {w} {a} {b} {c} {d} fields is = sym (ap lineOf fields ∙ ap (λ (t : Bool). cond t (assign a b c d) other) is)
-
-pub line-four : (line : List ℕ) {w a b c : List ℕ} → split 9 line ≡ w ∷ a ∷ b ∷ c ∷ [] → other ≡ lineOf (split 9 line)
-unfolding lineOf
-line-four line fields = sym (ap lineOf fields)
-
-pub line-more : (line : List ℕ) {w a b c d : List ℕ} (rest : List ℕ) → split 9 line ≡ w ∷ a ∷ b ∷ c ∷ d ∷ split 9 rest → other ≡ lineOf (split 9 line)
-unfolding lineOf
-line-more line {w} {a} {b} {c} {d} rest fields =
-    let some = split-piece 9 rest in
-    sym (ap lineOf (fields ∙ ap (λ (l : List (List ℕ)). w ∷ a ∷ b ∷ c ∷ d ∷ l) (some .2)))
-
-pub line-one : (line : List ℕ) {w : List ℕ} → split 9 line ≡ w ∷ [] → oneField w ≡ lineOf (split 9 line)
-unfolding lineOf
-line-one line fields = sym (ap lineOf fields)
-
-pub line-two : (line : List ℕ) {w a : List ℕ} → split 9 line ≡ w ∷ a ∷ [] → twoFields w a ≡ lineOf (split 9 line)
-unfolding lineOf
-line-two line fields = sym (ap lineOf fields)
-
-pub line-three : (line : List ℕ) {w a b : List ℕ} → split 9 line ≡ w ∷ a ∷ b ∷ [] → threeFields w a b ≡ lineOf (split 9 line)
-unfolding lineOf
-line-three line fields = sym (ap lineOf fields)
-
--- ---- what a good line's entry fits
-
--- There is room for the entry, and a holding's user is declared.
-abbrev pub Fitting : Counts → Entry → Type 0
-Fitting c Entry.Header = Unit {0}
-Fitting c (Entry.Role name) = c .roles < 128
-Fitting c (Entry.User name clearance) = c .users < 64
-Fitting c (Entry.Has holder held) = holder < c .users
-Fitting c (Entry.Assign rule) = c .assigns < 256
-Fitting c (Entry.Revoke rule) = c .revokes < 256
-Fitting c (Entry.Goal set) = c .goals < 32
-Fitting c Entry.End = Unit {0}
-
-entry-fits : (c : Counts) (roles users : List Name) → length users ≡ c .users → (line : Line) → withinLimit c line ≡ true → declared roles users line ≡ true → Fitting c (entry roles users line)
-unfolding withinLimit declared entry isDeclared
-entry-fits c roles users many (header edition) room known = tt
-entry-fits c roles users many (role name) room known = ltb-true (c .roles) 128 room
-entry-fits c roles users many (user name clearance) room known = ltb-true (c .users) 64 room
-entry-fits c roles users many (has holder held) room known =
-    let here = ltb-true (placed users holder) (length users) (and-eq-true-iff (isDeclared users holder) (isDeclared roles held) .0 known .0) in
-    omega (arith, here, many)
-entry-fits c roles users many (assign admin positive negative target) room known = ltb-true (c .assigns) 256 room
-entry-fits c roles users many (revoke admin target) room known = ltb-true (c .revokes) 256 room
-entry-fits c roles users many (goal set) room known = ltb-true (c .goals) 32 room
-entry-fits c roles users many end room known = tt
-entry-fits c roles users many other room known = tt
-
--- what a good answer says of the three tests
-good-turn : (formed limited known : Bool) (e e′ : Entry) → inTurn formed limited known e ≡ PolicyLine.Good e′ → (limited ≡ true) × (known ≡ true) × (e ≡ e′)
-unfolding inTurn
-good-turn true true true e e′ good = (refl, refl, cc)
-good-turn true true false e e′ good = absurd (let z : _≡_ {A = ℕ} 0 1 = cc in omega arith)
-good-turn true false known e e′ good = absurd (let z : _≡_ {A = ℕ} 0 1 = cc in omega arith)
-good-turn false limited known e e′ good = absurd (let z : _≡_ {A = ℕ} 0 1 = cc in omega arith)
-
-pub good-fits : (c : Counts) (roles users : List Name) (line : List ℕ) {e : Entry} → length users ≡ c .users → policyLine c roles users line ≡ PolicyLine.Good e → Fitting c e
-unfolding policyLine judged
-good-fits c roles users line {e} many good =
-    let told = good-turn (wellFormed c roles users (lineOf (split 9 line))) (withinLimit c (lineOf (split 9 line))) (declared roles users (lineOf (split 9 line))) (entry roles users (lineOf (split 9 line))) e good in
-    subst (Fitting c) (told .2) (entry-fits c roles users many (lineOf (split 9 line)) (told .0) (told .1))
+-- the refusal's number of a line that is not good
+unfoldable pub codeOf : PolicyLine → ℕ
+codeOf (PolicyLine.Good e) = 0
+codeOf (PolicyLine.Bad number) = number

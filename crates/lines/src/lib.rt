@@ -5,7 +5,7 @@ ghost use lib.ListN.{length};
 ghost use mathlib.Core.List.{List};
 ghost use Rattle.tables.specs.declared.Name.{Name};
 ghost use Rattle.tables.specs.Names.{rows};
-ghost use Rattle.lines.specs.Lines.{Line, oneField, twoFields, threeFields, inOrder, inTurn, judged, policyLine};
+ghost use Rattle.lines.specs.Lines.{Line, oneField, twoFields, threeFields, inOrder, comesTo, judged, policyLine};
 use fields::read_name;
 use fields::read_set;
 use fields::worse;
@@ -13,6 +13,21 @@ use model::Assign;
 use model::Revoke;
 use roles::RoleSet;
 use tables::Name;
+
+// The kinds of lines in the order in which they come, with room between them.
+pub const HEADER: usize = 10;
+
+pub const ROLE: usize = 20;
+
+pub const USER: usize = 30;
+
+pub const HAS: usize = 40;
+
+pub const ASSIGN: usize = 50;
+
+pub const REVOKE: usize = 60;
+
+pub const GOAL: usize = 70;
 
 // How far a policy was read: the kind of the last line, 0 before the header, and how many of each kind there are.
 pub struct Counts {
@@ -46,12 +61,12 @@ pub enum PolicyLine {
 fn in_order(stage: usize, kind: usize) -> bool
     ensures { λ r. ⌜ r ≡ inOrder stage kind ⌝ }
 {
-    (1 <= stage) & (stage <= kind)
+    (HEADER <= stage) & (stage <= kind)
 }
 
 // Malformed, then limit, then names.
 fn in_turn(formed: bool, limited: bool, declared: bool, entry: Entry) -> PolicyLine
-    ensures { λ r. ⌜ r ≡ inTurn formed limited declared entry ⌝ }
+    ensures { λ r. ⌜ r ≡ comesTo formed limited declared entry ⌝ }
 {
     if !formed {
         return PolicyLine::Bad(11);
@@ -81,7 +96,7 @@ fn role_line(name: &[u8], roles: &[u64], c: Counts) -> PolicyLine
     let packed = tables::pack(name);
     let count = c.roles;
     let place = tables::find(roles, count, packed);
-    let formed = in_order(c.stage, 1) & text::is_name(name) & (count <= place);
+    let formed = in_order(c.stage, ROLE) & text::is_name(name) & (count <= place);
     in_turn(formed, count < 128, true, Entry::Role(packed))
 }
 
@@ -93,7 +108,7 @@ fn user_line(name: &[u8], clearance: &[u8], users: &[u64], c: Counts) -> PolicyL
     let packed = tables::pack(name);
     let count = c.users;
     let place = tables::find(users, count, packed);
-    let formed = in_order(c.stage, 2)
+    let formed = in_order(c.stage, USER)
         & text::is_name(name)
         & text::is_label(clearance)
         & (count <= place);
@@ -109,7 +124,7 @@ fn has_line(user: &[u8], role: &[u8], roles: &[u64], users: &[u64], c: Counts) -
     let u = read_name(user, users, c.users);
     let r = read_name(role, roles, c.roles);
     let fault = worse(u.fault, r.fault);
-    let formed = in_order(c.stage, 3) & (fault < 2);
+    let formed = in_order(c.stage, HAS) & (fault < 2);
     in_turn(formed, true, fault == 0, Entry::Has(u.place, r.place))
 }
 
@@ -121,7 +136,7 @@ fn revoke_line(admin: &[u8], target: &[u8], roles: &[u64], c: Counts) -> PolicyL
     let a = read_name(admin, roles, c.roles);
     let t = read_name(target, roles, c.roles);
     let fault = worse(a.fault, t.fault);
-    let formed = in_order(c.stage, 5) & (fault < 2);
+    let formed = in_order(c.stage, REVOKE) & (fault < 2);
     let rule = Revoke {
         admin: a.place,
         target: t.place,
@@ -148,7 +163,7 @@ fn assign_line(
     let first = worse(a.fault, p.fault);
     let second = worse(n.fault, t.fault);
     let fault = worse(first, second);
-    let formed = in_order(c.stage, 4) & (fault < 2);
+    let formed = in_order(c.stage, ASSIGN) & (fault < 2);
     let plus = p.roles;
     let minus = n.roles;
     let rule = Assign {
@@ -167,7 +182,7 @@ fn goal_line(set: &[u8], roles: &[u64], c: Counts) -> PolicyLine
 {
     let s = read_set(set, roles, c.roles);
     let fault = s.fault;
-    let ordered = in_order(c.stage, 6) & !text::same(set, b"-");
+    let ordered = in_order(c.stage, GOAL) & !text::same(set, b"-");
     let held = s.roles;
     in_turn(
         ordered & (fault < 2),
@@ -181,7 +196,7 @@ fn goal_line(set: &[u8], roles: &[u64], c: Counts) -> PolicyLine
 fn one_field(word: &[u8], c: Counts) -> PolicyLine
     ensures { λ r. ⌜ ((roles users : List Name) → r ≡ judged c roles users (oneField (now (word .entry)))) ⌝ }
 {
-    let formed = text::same(word, b"end") & (c.stage == 6);
+    let formed = text::same(word, b"end") & (c.stage == GOAL);
     in_turn(formed, true, true, Entry::End)
 }
 

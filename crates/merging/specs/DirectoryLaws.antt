@@ -104,7 +104,7 @@ people : {s : Said} {D : Directory} {R : Rules} → Laid s D R → take (D .coun
 unfolding padded
 people {s} {D} l =
     ap (take (D .counts .users)) (people-laid l)
-    ∙ take-at (s .holdings) (replicate (64 - length (s .holdings)) nobody) (D .counts .users) (omega (arith, l .users, l .bounded .holdings))
+    ∙ take-at (s .holdings) (replicate (64 - length (s .holdings)) nobody) (D .counts .users) (omega (arith, l .users, l .sound .people))
 
 -- Two policies laid out are over the same directory where their texts are.
 pub directory-laid : {s s′ : Said} {D E : Directory} {P Q : Rules} → Laid s D P → Laid s′ E Q → sameTables D E ≡ sameDirectory s s′

@@ -24,20 +24,20 @@ module _ {s : Said} {D : Directory} {R : Rules} (l : Laid s D R) where
   pub limited : Limited (R .counts)
   unfolding countsOf
   limited = record {
-    roles = omega (arith, ap (λ (c : Counts). c .roles) (counts-laid l), l .bounded .roles);
-    assigns = omega (arith, ap (λ (c : Counts). c .assigns) (counts-laid l), l .bounded .assigns);
-    revokes = omega (arith, ap (λ (c : Counts). c .revokes) (counts-laid l), l .bounded .revokes);
-    goals = omega (arith, ap (λ (c : Counts). c .goals) (counts-laid l), l .bounded .goals);
+    roles = omega (arith, ap (λ (c : Counts). c .roles) (counts-laid l), l .sound .roles .most);
+    assigns = omega (arith, ap (λ (c : Counts). c .assigns) (counts-laid l), l .sound .assigns .most);
+    revokes = omega (arith, ap (λ (c : Counts). c .revokes) (counts-laid l), l .sound .revokes .most);
+    goals = omega (arith, ap (λ (c : Counts). c .goals) (counts-laid l), l .sound .goals .most);
   }
 
   -- what a comparison of directories asks of the counts
   pub few : (D .counts .roles ≤ 128) × (D .counts .users ≤ 64)
-  few = (omega (arith, l .roles, l .bounded .roles), omega (arith, l .users, l .bounded .users))
+  few = (omega (arith, l .roles, l .sound .roles .most), omega (arith, l .users, l .sound .users .most))
 
   -- a verdict on the arrays is that on the text
   module _ (t : Table) {verdict : TypingVerdict} where
     pub verdict-told : judgedTyping (subjectIn (D .persons) R) t ≡ verdict → typingVerdict s t ≡ verdict
-    verdict-told is = sym (ap (λ (r : Rules). judgedTyping (subjectIn (D .persons) r) t) (l .rules) ∙ typing-laid t (l .bounded) (people-laid l)) ∙ is
+    verdict-told is = sym (ap (λ (r : Rules). judgedTyping (subjectIn (D .persons) r) t) (l .rules) ∙ typing-laid t (l .sound) (people-laid l)) ∙ is
 
     pub rules-told : judgedRules (R .counts .roles) (policyIn R) t ≡ verdict → rulesVerdict s t ≡ verdict
-    rules-told is = sym (ap (λ (r : Rules). judgedRules (r .counts .roles) (policyIn r) t) (l .rules) ∙ rules-laid t (l .bounded)) ∙ is
+    rules-told is = sym (ap (λ (r : Rules). judgedRules (r .counts .roles) (policyIn r) t) (l .rules) ∙ rules-laid t (l .sound)) ∙ is

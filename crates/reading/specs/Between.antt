@@ -2,19 +2,22 @@
 -- decides.
 use Prim.Native.Nat.{ℕ, _+_, _≤_, _<_}
 use mathlib.Core.List.{List}
-use mathlib.Core.Path.{_≡_, refl, sym, ap, ap₂, subst, subst⁻¹, _∙_}
+use mathlib.Core.Path.{_≡_, refl, sym, ap, ap₂, subst⁻¹, _∙_}
 use lib.ListN.{length}
 use Rattle.tables.specs.declared.Name.{Name}
 use Rattle.tables.specs.Names.{rows}
-use Rattle.text.specs.Pieces.{part, Sought}
+use Rattle.text.specs.Pieces.{split, part, Sought}
 use Rattle.lines.specs.declared.Counts.{Counts}
 use Rattle.lines.specs.declared.Entry.{Entry}
 use Rattle.lines.specs.declared.PolicyLine.{PolicyLine}
-use Rattle.lines.specs.Lines.{policyLine, Fitting, good-fits}
+use Rattle.lines.specs.Lines.{policyLine, lineOf}
+use Rattle.lines.specs.LineLaws.{GoodLine, line-good, Fitting, good-fits}
+use Rattle.walking.specs.Turns.{inTurn}
 use Rattle.walking.specs.Texts.{Judged, goes, read, refused}
 use Rattle.walking.specs.Walk.{On, on-end, on-tail, on-bad, on-goes, on-last, on-more}
-use Rattle.reading.specs.Policy.{Said, nothing, countsOf, added, entered, answered, judgeLine, readPolicy}
-use Rattle.reading.specs.Bounded.{Bounded, bounded-added}
+use Rattle.reading.specs.Policy.{Said, nothing, countsOf, kindOf, added, isNew, leads, judgeLine, readPolicy}
+use Rattle.reading.specs.Answer.{entered, answered, judge-answered}
+use Rattle.reading.specs.Sound.{Sound, line-sound}
 
 -- before the line of this number, where the lines so far say s
 pub record Between (text : List ℕ) (at number : ℕ) (c : Counts) (roles users : List ℕ) (s : Said) : Type 0 where
@@ -22,7 +25,7 @@ pub record Between (text : List ℕ) (at number : ℕ) (c : Counts) (roles users
   pub counted : c ≡ countsOf s
   pub named : rows (c .roles) roles ≡ s .roles
   pub listed : rows (c .users) users ≡ s .users
-  pub bounded : Bounded s
+  pub sound : Sound s
   -- the whole text gives what the lines from here on give
   pub on : On judgeLine 11 10 nothing text at number s
 
@@ -46,8 +49,7 @@ module _ {text : List ℕ} {at number : ℕ} {c : Counts} {roles users : List �
           ∙ ap (λ (d : Counts). policyLine d (s .roles) (s .users) (part text at stop)) (b .counted)
 
       pub judged-is : {judged : Judged Said} → answered s answer ≡ judged → judgeLine s (part text at stop) ≡ judged
-      unfolding judgeLine
-      judged-is is = ap (answered s) (sym answer-said) ∙ is
+      judged-is is = judge-answered s (part text at stop) ∙ ap (answered s) (sym answer-said) ∙ is
 
       -- a line that is not good
       pub between-bad : {k : ℕ} → answer ≡ PolicyLine.Bad k → readPolicy text ≡ refused k number
@@ -55,12 +57,14 @@ module _ {text : List ℕ} {at number : ℕ} {c : Counts} {roles users : List �
       between-bad bad-line = on-bad judgeLine 11 10 nothing (b .on) sought here (judged-is (ap (answered s) bad-line))
 
       module _ {e : Entry} (good : answer ≡ PolicyLine.Good e) where
+        -- the line is good over what the lines above say
+        good-here : GoodLine (countsOf s) (s .roles) (s .users) (lineOf (split 9 (part text at stop))) e
+        good-here = line-good (countsOf s) (s .roles) (s .users) (part text at stop) (sym answer-said ∙ good)
+
         -- there is room for the entry
         pub fits-here : Fitting c e
         unfolding countsOf
-        fits-here =
-            subst⁻¹ (λ (d : Counts). Fitting d e) (b .counted)
-            (good-fits (countsOf s) (s .roles) (s .users) (part text at stop) refl (sym answer-said ∙ good))
+        fits-here = subst⁻¹ (λ (d : Counts). Fitting d e) (b .counted) (good-fits refl good-here)
 
         -- the line, judged by its entry
         pub judged-entry : {judged : Judged Said} → entered s e ≡ judged → judgeLine s (part text at stop) ≡ judged
@@ -74,16 +78,16 @@ module _ {text : List ℕ} {at number : ℕ} {c : Counts} {roles users : List �
           counted = counted′;
           named = named′;
           listed = listed′;
-          bounded = bounded-added s e (b .bounded) (subst (λ (d : Counts). Fitting d e) (b .counted) fits-here);
+          sound = line-sound s (part text at stop) good-here (b .sound);
           on = on-goes judgeLine 11 10 nothing (b .on) sought here (judged-entry enters);
         }
 
       -- the last line, and bytes after it
       module _ (ending : answer ≡ PolicyLine.Good Entry.End) where
         pub between-last : length text ≤ stop + 1 → readPolicy text ≡ read s
-        unfolding readPolicy entered
+        unfolding readPolicy entered leads isNew kindOf inTurn
         between-last all = on-last judgeLine 11 10 nothing (b .on) sought here (judged-entry ending refl) all
 
         pub between-more : stop + 1 < length text → readPolicy text ≡ refused 11 (number + 1)
-        unfolding readPolicy entered
+        unfolding readPolicy entered leads isNew kindOf inTurn
         between-more left = on-more judgeLine 11 10 nothing (b .on) sought here (judged-entry ending refl) left

@@ -10,7 +10,8 @@ use Rattle.text.specs.Pieces.{split}
 use Rattle.lines.specs.declared.Counts.{Counts}
 use Rattle.reading.specs.declared.directory.Directory.{Directory}
 use Rattle.walking.specs.Texts.{Judged, goes, ends, bad, Reading, read, refused}
-use Rattle.reading.specs.Policy.{Said, nothing, countsOf, judgeLine}
+use Rattle.lines.specs.Lines.{assignKind}
+use Rattle.reading.specs.Policy.{Said, nothing, countsOf, atStage, judgeLine}
 use Rattle.tables.specs.Padded.{padded}
 
 -- Where the rules begin: what the lines above say, and the place and the number of the first line that is not of the directory.
@@ -21,19 +22,11 @@ pub record Opening : Type 0 where
 
 -- The directory is closed: from here on no line of it is in order.
 unfoldable pub closed : Said → Said
-closed s = record {
-  stage = 4;
-  roles = s .roles;
-  users = s .users;
-  holdings = s .holdings;
-  assigns = s .assigns;
-  revokes = s .revokes;
-  goals = s .goals;
-}
+closed s = atStage assignKind s
 
--- A line of the directory, of kind 1, 2 or 3, leads on; the first good line of another kind is where the rules begin.
+-- A line of the directory, of a kind before the assign lines, leads on; the first good line of another kind is where the rules begin.
 unfoldable pub leading : Judged Said → Opening → (Said → Reading Opening) → Reading Opening
-leading (goes t) here onward = cond (ltb (t .stage) 4) (onward t) (read here)
+leading (goes t) here onward = cond (ltb (t .stage) assignKind) (onward t) (read here)
 leading ends here onward = read here
 leading (bad number) here onward = refused number (here .number)
 

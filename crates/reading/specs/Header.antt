@@ -9,17 +9,18 @@ use Rattle.text.specs.Pieces.{split, sameBytes, same-equal}
 use Rattle.text.specs.Begins.{begins}
 use Rattle.walking.specs.Texts.{Judged, bad, refused}
 use Rattle.walking.specs.FirstLine.{first-piece, not-begun}
-use Rattle.lines.specs.Lines.{Line, header, role, user, has, assign, revoke, goal, end, other, oneField, twoFields, threeFields, fiveFields, lineOf, inOrder, wellFormed, inTurn, judged, policyLine}
-use Rattle.reading.specs.Policy.{Said, nothing, countsOf, answered, judgeLine, readPolicy}
+use Rattle.lines.specs.Lines.{Line, header, role, user, has, assign, revoke, goal, end, other, oneField, twoFields, threeFields, fiveFields, lineOf, inOrder, asked, tests}
+use Rattle.walking.specs.Turns.{test, inTurn}
+use Rattle.reading.specs.Policy.{Said, nothing, countsOf, isNew, leads, lineAsked, lineTests, judgeLine, readPolicy}
 use Rattle.reading.specs.PolicyExact.{whole-piece}
 
 -- a line that is not the header is malformed before any other line
 not-header : (line : List ℕ) → (line ≡ bytes "arbac\t1" → ⊥) → judgeLine nothing line ≡ bad 11
-unfolding judgeLine answered policyLine judged inTurn wellFormed inOrder lineOf oneField twoFields threeFields fiveFields countsOf nothing
+unfolding judgeLine lineTests lineAsked inTurn tests asked inOrder lineOf oneField twoFields threeFields fiveFields countsOf nothing
 not-header line other-line = go (split 9 line) refl
   where
     answer : Line → Judged Said
-    answer l = answered nothing (judged (countsOf nothing) [] [] l)
+    answer l = let a = asked (countsOf nothing) [] [] l in inTurn bad (tests (a .formed) (a .within) (a .known) ++ (test 11 (isNew [] (a .says)) ∷ [])) (leads nothing (a .says))
 
     one : (t : Bool) → answer (cond t end other) ≡ bad 11
     one true = refl

@@ -9,6 +9,7 @@ use native.Mathlib.Numerals.{add-one}
 use native.Mathlib.Omega.{arith}
 use Rattle.text.specs.Pieces.{split, split-piece, part, Sought, sought-some, sought-last}
 use Rattle.walking.specs.Texts.{Judged, goes, bad, read, refused}
+use Rattle.lines.specs.Lines.{assignKind}
 use Rattle.reading.specs.Policy.{Said, nothing, judgeLine}
 use Rattle.reading.specs.Directory.{Opening, closed, leading, directoryLines, readDirectory}
 
@@ -58,14 +59,14 @@ module _ {text : List ℕ} {at number : ℕ} {s : Said} (led : Led text at numbe
       led-bad is = onwards is
 
       -- a line of the directory
-      pub led-goes : {t : Said} → judgeLine s (part text at stop) ≡ goes t → t .stage < 4 → Led text (stop + 1) (number + 1) t
+      pub led-goes : {t : Said} → judgeLine s (part text at stop) ≡ goes t → t .stage < assignKind → Led text (stop + 1) (number + 1) t
       unfolding leading
       led-goes {t} is early = record {
-        left = onwards is ∙ ap (λ b. cond b (directoryLines t (stop + 1) (number + 1) (split 10 (drop (stop + 1) text))) (read (openingAt s at number))) (lt-ltb (t .stage) 4 early);
+        left = onwards is ∙ ap (λ b. cond b (directoryLines t (stop + 1) (number + 1) (split 10 (drop (stop + 1) text))) (read (openingAt s at number))) (lt-ltb (t .stage) assignKind early);
       }
 
       -- a line of the rules
-      pub led-stops : {t : Said} → judgeLine s (part text at stop) ≡ goes t → 4 ≤ t .stage → readDirectory text ≡ read (openingAt s at number)
+      pub led-stops : {t : Said} → judgeLine s (part text at stop) ≡ goes t → assignKind ≤ t .stage → readDirectory text ≡ read (openingAt s at number)
       unfolding leading
       led-stops {t} is late =
-          onwards is ∙ ap (λ b. cond b (directoryLines t (stop + 1) (number + 1) (split 10 (drop (stop + 1) text))) (read (openingAt s at number))) (le-ltb (t .stage) 4 late)
+          onwards is ∙ ap (λ b. cond b (directoryLines t (stop + 1) (number + 1) (split 10 (drop (stop + 1) text))) (read (openingAt s at number))) (le-ltb (t .stage) assignKind late)

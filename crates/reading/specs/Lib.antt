@@ -1,9 +1,9 @@
 -- What a policy text is read into, and when it is refused.
 pub mod Policy
+pub mod Answer
+pub mod Sound
 pub mod Directory
 pub mod Rules
-pub mod Bounded
-pub mod Kept
 pub mod PolicyExact
 pub mod Header
 pub mod Order

@@ -2,7 +2,7 @@
 use Prim.Native.Nat.{ℕ, suc, _+_, _*_, _≤_, _<_}
 use mathlib.Core.Bool.{Bool, true, false, cond}
 use mathlib.Core.List.{List, [], _∷_, _++_}
-use mathlib.Core.Path.{_≡_, refl, sym, ap, _∙_}
+use mathlib.Core.Path.{_≡_, refl, sym, ap, subst, _∙_}
 use borrow.Author.Tests.{ltb-true, ltb-false}
 use lib.Dec.{ltb}
 use lib.ListN.{length, drop, length-drop, length-append}
@@ -10,15 +10,13 @@ use lib.Seq.{drop-drop, drop-append-add}
 use native.Mathlib.Omega.{arith}
 use Rattle.text.specs.Pieces.{split}
 use Rattle.lines.specs.declared.Counts.{Counts}
-use Rattle.lines.specs.declared.Entry.{Entry}
-use Rattle.lines.specs.declared.PolicyLine.{PolicyLine}
-use Rattle.lines.specs.Lines.{policyLine, good-fits}
+use Rattle.lines.specs.Lines.{assignKind}
 use Rattle.walking.specs.Texts.{Judged, goes, ends, bad, Reading, read, refused, readLines, onward, text-long}
 use Rattle.walking.specs.Walk.{On, on-start}
-use Rattle.reading.specs.Policy.{Said, nothing, countsOf, added, judgeLine, readPolicy}
-use Rattle.reading.specs.Bounded.{Bounded, bounded-nothing, bounded-added}
-use Rattle.reading.specs.Kept.{line-keeps}
-use Rattle.reading.specs.Order.{OfDirectory, early-entry, closed-line}
+use Rattle.reading.specs.Policy.{Said, nothing, countsOf, judgeLine, readPolicy}
+use Rattle.reading.specs.Sound.{Sound, at-stage, line-sound, nothing-sound}
+use Rattle.reading.specs.Answer.{line-leads}
+use Rattle.reading.specs.Order.{closed-line, rules-stay}
 use Rattle.reading.specs.Between.{Between}
 use Rattle.reading.specs.PolicyExact.{end-exact}
 use Rattle.walking.specs.FirstLine.{first-piece}
@@ -29,7 +27,7 @@ use Rattle.reading.specs.Leading.{openingAt}
 pub record Opened (text : List ℕ) (at number : ℕ) (c : Counts) (roles users : List ℕ) : Type 0 where
   pub said : Said
   pub between : Between text at number c roles users said
-  pub late : 4 ≤ said .stage
+  pub late : assignKind ≤ said .stage
   pub tables : (4 * c .roles ≤ length roles) × (4 * c .users ≤ length users) × (c .roles ≤ 128)
   pub no-assigns : [] ≡ said .assigns
   pub no-revokes : [] ≡ said .revokes
@@ -46,38 +44,20 @@ pub record Ruleless (s : Said) : Type 0 where
 -- the policy is read on from where the rules begin
 pub record Begins (text : List ℕ) (o : Opening) : Type 0 where
   pub on : On judgeLine 11 10 nothing text (o .at) (o .number) (o .said)
-  pub late : o .said .stage ≡ 4
-  pub bounded : Bounded (o .said)
+  pub late : o .said .stage ≡ assignKind
+  pub sound : Sound (o .said)
   pub ruleless : Ruleless (o .said)
 
 abbrev pub Outcome : List ℕ → Reading Opening → Type 0
 Outcome text (read o) = Begins text o
 Outcome text (refused number line) = readPolicy text ≡ refused number line
 
--- a line of the directory says no rule
-early-ruleless : (s : Said) (line : List ℕ) (e : Entry) → policyLine (countsOf s) (s .roles) (s .users) line ≡ PolicyLine.Good e → (s .stage < 4 → Ruleless s) → added s e .stage < 4 → Ruleless (added s e)
-unfolding added countsOf
-early-ruleless s line e told none after = go e told after
-  where
-    before : (d : Entry) → policyLine (countsOf s) (s .roles) (s .users) line ≡ PolicyLine.Good d → OfDirectory d → Ruleless s
-    before d is of = none (early-entry (countsOf s) (s .roles) (s .users) line is of)
-
-    go : (d : Entry) → policyLine (countsOf s) (s .roles) (s .users) line ≡ PolicyLine.Good d → added s d .stage < 4 → Ruleless (added s d)
-    go Entry.Header is early = let b = before Entry.Header is tt in record { assigns = b .assigns; revokes = b .revokes; goals = b .goals }
-    go (Entry.Role name) is early = let b = before (Entry.Role name) is tt in record { assigns = b .assigns; revokes = b .revokes; goals = b .goals }
-    go (Entry.User name clearance) is early = let b = before (Entry.User name clearance) is tt in record { assigns = b .assigns; revokes = b .revokes; goals = b .goals }
-    go (Entry.Has holder held) is early = let b = before (Entry.Has holder held) is tt in record { assigns = b .assigns; revokes = b .revokes; goals = b .goals }
-    go (Entry.Assign rule) is early = absurd (omega arith)
-    go (Entry.Revoke rule) is early = absurd (omega arith)
-    go (Entry.Goal set) is early = absurd (omega arith)
-    go Entry.End is early = none early
-
 module _ (text : List ℕ) where
   -- before a line of the directory
   record Early (at number : ℕ) (s : Said) : Type 0 where
     on : On judgeLine 11 10 nothing text at number s
-    early : s .stage < 4
-    bounded : Bounded s
+    early : s .stage < assignKind
+    sound : Sound s
     ruleless : Ruleless s
 
   -- from a line of the directory on: the lines lead to the refusal of the policy, or to where the rules begin
@@ -99,7 +79,7 @@ module _ (text : List ℕ) where
           → Outcome text (leading judged (openingAt s at number) (λ t. directoryLines t (at + length first + 1) (suc number) (next ∷ more)))
       go again rest whole below (bad k) is = onwards is
       go again rest whole below ends is = absurd (omega (arith, end-exact s first .0 is .after-goal, e .early))
-      go again rest whole below (goes t) is = by (ltb (t .stage) 4) refl
+      go again rest whole below (goes t) is = by (ltb (t .stage) assignKind) refl
         where
           left : drop (at + length first + 1) text ≡ rest
           left =
@@ -109,7 +89,7 @@ module _ (text : List ℕ) where
           long : length first + 1 + length rest ≡ length (drop at text)
           long = omega (arith, ap length whole, length-append first (10 ∷ rest))
 
-          by : (b : Bool) → ltb (t .stage) 4 ≡ b → Outcome text (cond b (directoryLines t (at + length first + 1) (suc number) (next ∷ more)) (read (openingAt s at number)))
+          by : (b : Bool) → ltb (t .stage) assignKind ≡ b → Outcome text (cond b (directoryLines t (at + length first + 1) (suc number) (next ∷ more)) (read (openingAt s at number)))
           by true early = again t (at + length first + 1) (ap (split 10) left ∙ below) (record {
             on = record {
               left = onwards is ∙ ap (readLines judgeLine 11 t (suc number)) (sym (ap (split 10) left ∙ below));
@@ -117,19 +97,19 @@ module _ (text : List ℕ) where
               short = e .on .short;
               numbered = omega (arith, e .on .numbered);
             };
-            early = ltb-true (t .stage) 4 early;
-            bounded = line-keeps Bounded (λ u line entry told b. bounded-added u entry b (good-fits (countsOf u) (u .roles) (u .users) line refl told)) s t first is (e .bounded);
-            ruleless = line-keeps (λ (u : Said). u .stage < 4 → Ruleless u) early-ruleless s t first is (λ before. e .ruleless) (ltb-true (t .stage) 4 early);
+            early = ltb-true (t .stage) assignKind early;
+            sound = let l = line-leads s t first is in subst Sound (l .adds) (line-sound s first (l .good) (e .sound));
+            ruleless = let (assigns, revokes, goals) = rules-stay s t first is (ltb-true (t .stage) assignKind early) in record { assigns = e .ruleless .assigns ∙ assigns; revokes = e .ruleless .revokes ∙ revokes; goals = e .ruleless .goals ∙ goals };
           })
           by false late = record {
             on = record {
-              left = onwards is ∙ sym (ap (readLines judgeLine 11 (closed s) number) cut ∙ ap (λ (j : Judged Said). onward judgeLine 11 j (closed s) number (next ∷ more) (λ u. readLines judgeLine 11 u (suc number) (next ∷ more))) (closed-line s t first (e .early) is (ltb-false (t .stage) 4 late)));
+              left = onwards is ∙ sym (ap (readLines judgeLine 11 (closed s) number) cut ∙ ap (λ (j : Judged Said). onward judgeLine 11 j (closed s) number (next ∷ more) (λ u. readLines judgeLine 11 u (suc number) (next ∷ more))) (closed-line s t first (e .early) is (ltb-false (t .stage) assignKind late)));
               within = e .on .within;
               short = e .on .short;
               numbered = e .on .numbered;
             };
             late = refl;
-            bounded = record { roles = e .bounded .roles; users = e .bounded .users; holdings = e .bounded .holdings; assigns = e .bounded .assigns; revokes = e .bounded .revokes; goals = e .bounded .goals };
+            sound = at-stage (e .sound) assignKind;
             ruleless = record { assigns = e .ruleless .assigns; revokes = e .ruleless .revokes; goals = e .ruleless .goals };
           }
 
@@ -143,6 +123,6 @@ directory-exact text = go (ltb 32768 (length text)) refl
     go false short = lines-lead text (split 10 text) nothing 0 1 refl (record {
       on = on-start judgeLine 11 10 nothing text (ltb-false 32768 (length text) short);
       early = omega arith;
-      bounded = bounded-nothing;
+      sound = nothing-sound;
       ruleless = record { assigns = refl; revokes = refl; goals = refl };
     })

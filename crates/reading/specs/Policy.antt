@@ -1,7 +1,8 @@
 -- A whole policy text: what each line adds.
 use Prim.Native.Nat.{ℕ}
-use mathlib.Core.Bool.{cond}
+use mathlib.Core.Bool.{Bool, true, cond, not}
 use mathlib.Core.List.{List, [], _∷_, _++_}
+use lib.Dec.{eqb}
 use lib.ListN.{length}
 use Rattle.roles.specs.declared.RoleSet.{RoleSet}
 use Rattle.roles.specs.Sets.{emptySet, hasRole}
@@ -11,9 +12,10 @@ use Rattle.model.specs.Policy.{Policy as Rules, State, person, granted}
 use Rattle.tables.specs.declared.Name.{Name}
 use Rattle.lines.specs.declared.Counts.{Counts}
 use Rattle.lines.specs.declared.Entry.{Entry}
-use Rattle.lines.specs.declared.PolicyLine.{PolicyLine}
 use Rattle.walking.specs.Texts.{Judged, goes, ends, bad, Reading, readText}
-use Rattle.lines.specs.Lines.{policyLine}
+use Rattle.walking.specs.Turns.{Test, test, inTurn}
+use Rattle.text.specs.Pieces.{split}
+use Rattle.lines.specs.Lines.{Asked, asked, tests, lineOf, headerKind, roleKind, userKind, hasKind, assignKind, revokeKind, goalKind, endKind}
 
 -- What the lines so far say: the kind of the last one, the names, the holdings, the rules and the goals, each in the order read.
 pub record Said : Type 0 where
@@ -43,96 +45,79 @@ countsOf s = record {
 unfoldable pub policyOf : Said → Rules
 policyOf s = record { assigns = s .assigns; revokes = s .revokes; goals = s .goals }
 
--- one entry more, at the end of its kind
+-- What is said with one part changed, and all else as it was.
+abbrev pub atStage : ℕ → Said → Said
+atStage kind s = record { stage = kind; roles = s .roles; users = s .users; holdings = s .holdings; assigns = s .assigns; revokes = s .revokes; goals = s .goals }
+
+abbrev pub withRoles : List Name → Said → Said
+withRoles roles s = record { stage = s .stage; roles = roles; users = s .users; holdings = s .holdings; assigns = s .assigns; revokes = s .revokes; goals = s .goals }
+
+abbrev pub withUsers : List Name → Said → Said
+withUsers users s = record { stage = s .stage; roles = s .roles; users = users; holdings = s .holdings; assigns = s .assigns; revokes = s .revokes; goals = s .goals }
+
+abbrev pub withHoldings : State → Said → Said
+withHoldings holdings s = record { stage = s .stage; roles = s .roles; users = s .users; holdings = holdings; assigns = s .assigns; revokes = s .revokes; goals = s .goals }
+
+abbrev pub withAssigns : List Assign → Said → Said
+withAssigns assigns s = record { stage = s .stage; roles = s .roles; users = s .users; holdings = s .holdings; assigns = assigns; revokes = s .revokes; goals = s .goals }
+
+abbrev pub withRevokes : List Revoke → Said → Said
+withRevokes revokes s = record { stage = s .stage; roles = s .roles; users = s .users; holdings = s .holdings; assigns = s .assigns; revokes = revokes; goals = s .goals }
+
+abbrev pub withGoals : List RoleSet → Said → Said
+withGoals goals s = record { stage = s .stage; roles = s .roles; users = s .users; holdings = s .holdings; assigns = s .assigns; revokes = s .revokes; goals = goals }
+
+-- The kind of the line that says an entry.
+unfoldable pub kindOf : Entry → ℕ
+kindOf Entry.Header = headerKind
+kindOf (Entry.Role name) = roleKind
+kindOf (Entry.User name clearance) = userKind
+kindOf (Entry.Has user role) = hasKind
+kindOf (Entry.Assign rule) = assignKind
+kindOf (Entry.Revoke rule) = revokeKind
+kindOf (Entry.Goal goal) = goalKind
+kindOf Entry.End = endKind
+
+-- What an entry adds to its part: one more at the end, or a role to what a user holds.
+unfoldable pub noted : Said → Entry → Said
+noted s Entry.Header = s
+noted s (Entry.Role name) = withRoles (s .roles ++ (name ∷ [])) s
+noted s (Entry.User name clearance) = withUsers (s .users ++ (name ∷ [])) (withHoldings (s .holdings ++ (record { clearance = clearance; roles = emptySet } ∷ [])) s)
+noted s (Entry.Has user role) = withHoldings (granted (s .holdings) user role) s
+noted s (Entry.Assign rule) = withAssigns (s .assigns ++ (rule ∷ [])) s
+noted s (Entry.Revoke rule) = withRevokes (s .revokes ++ (rule ∷ [])) s
+noted s (Entry.Goal goal) = withGoals (s .goals ++ (goal ∷ [])) s
+noted s Entry.End = s
+
 unfoldable pub added : Said → Entry → Said
-added s Entry.Header = record {
-  stage = 1;
-  roles = s .roles;
-  users = s .users;
-  holdings = s .holdings;
-  assigns = s .assigns;
-  revokes = s .revokes;
-  goals = s .goals;
-}
-added s (Entry.Role name) = record {
-  stage = 1;
-  roles = s .roles ++ (name ∷ []);
-  users = s .users;
-  holdings = s .holdings;
-  assigns = s .assigns;
-  revokes = s .revokes;
-  goals = s .goals;
-}
-added s (Entry.User name clearance) = record {
-  stage = 2;
-  roles = s .roles;
-  users = s .users ++ (name ∷ []);
-  holdings = s .holdings ++ (record { clearance = clearance; roles = emptySet } ∷ []);
-  assigns = s .assigns;
-  revokes = s .revokes;
-  goals = s .goals;
-}
-added s (Entry.Has user role) = record {
-  stage = 3;
-  roles = s .roles;
-  users = s .users;
-  holdings = granted (s .holdings) user role;
-  assigns = s .assigns;
-  revokes = s .revokes;
-  goals = s .goals;
-}
-added s (Entry.Assign rule) = record {
-  stage = 4;
-  roles = s .roles;
-  users = s .users;
-  holdings = s .holdings;
-  assigns = s .assigns ++ (rule ∷ []);
-  revokes = s .revokes;
-  goals = s .goals;
-}
-added s (Entry.Revoke rule) = record {
-  stage = 5;
-  roles = s .roles;
-  users = s .users;
-  holdings = s .holdings;
-  assigns = s .assigns;
-  revokes = s .revokes ++ (rule ∷ []);
-  goals = s .goals;
-}
-added s (Entry.Goal goal) = record {
-  stage = 6;
-  roles = s .roles;
-  users = s .users;
-  holdings = s .holdings;
-  assigns = s .assigns;
-  revokes = s .revokes;
-  goals = s .goals ++ (goal ∷ []);
-}
-added s Entry.End = s
+added s e = atStage (kindOf e) (noted s e)
 
--- a has pair that stands above already is malformed
-unfoldable pub entered : Said → Entry → Judged Said
-entered s Entry.Header = goes (added s Entry.Header)
-entered s (Entry.Role name) = goes (added s (Entry.Role name))
-entered s (Entry.User name clearance) = goes (added s (Entry.User name clearance))
-entered s (Entry.Has user role) = cond (hasRole (person (s .holdings) user .roles) role) (bad 11) (goes (added s (Entry.Has user role)))
-entered s (Entry.Assign rule) = goes (added s (Entry.Assign rule))
-entered s (Entry.Revoke rule) = goes (added s (Entry.Revoke rule))
-entered s (Entry.Goal goal) = goes (added s (Entry.Goal goal))
-entered s Entry.End = ends
+-- The entry is new: it is no has pair that stands above already.
+unfoldable pub isNew : State → Entry → Bool
+isNew σ Entry.Header = true
+isNew σ (Entry.Role name) = true
+isNew σ (Entry.User name clearance) = true
+isNew σ (Entry.Has user role) = not (hasRole (person σ user .roles) role)
+isNew σ (Entry.Assign rule) = true
+isNew σ (Entry.Revoke rule) = true
+isNew σ (Entry.Goal goal) = true
+isNew σ Entry.End = true
 
--- the refusal's number of a line that is not good
-unfoldable pub codeOf : PolicyLine → ℕ
-codeOf (PolicyLine.Good e) = 0
-codeOf (PolicyLine.Bad number) = number
+-- What a good line's entry leads to: `end` is the last line, and any other is added.
+unfoldable pub leads : Said → Entry → Judged Said
+leads s e = cond (eqb (kindOf e) endKind) ends (goes (added s e))
 
-unfoldable pub answered : Said → PolicyLine → Judged Said
-answered s (PolicyLine.Good e) = entered s e
-answered s (PolicyLine.Bad number) = bad number
+-- What is asked of a line on its own bytes and on the lines above it, and what it says.
+unfoldable pub lineAsked : Said → List ℕ → Asked
+lineAsked s line = asked (countsOf s) (s .roles) (s .users) (lineOf (split 9 line))
 
--- A line, judged on its own bytes and on the lines above it.
+-- Its tests: those of any line, then that a has pair is new, which is malformed where it is not.
+unfoldable pub lineTests : Said → List ℕ → List Test
+lineTests s line = let a = lineAsked s line in tests (a .formed) (a .within) (a .known) ++ (test 11 (isNew (s .holdings) (a .says)) ∷ [])
+
+-- A line, judged by its tests in turn.
 unfoldable pub judgeLine : Said → List ℕ → Judged Said
-judgeLine s line = answered s (policyLine (countsOf s) (s .roles) (s .users) line)
+judgeLine s line = inTurn bad (lineTests s line) (leads s (lineAsked s line .says))
 
 -- The whole text: 10 where it is too long, 11 where `end` is missing or not the last line.
 unfoldable pub readPolicy : List ℕ → Reading Said

@@ -1,22 +1,21 @@
 -- When a policy line and a policy text are refused, in document 01's words, and that `readPolicy` answers exactly so.
 use Prim.Native.Nat.{ℕ, suc, _≤_, _<_}
-use mathlib.Core.Bool.{Bool, true, false, cond, true≢false}
-use mathlib.Core.List.{List, [], _∷_}
+use mathlib.Core.Bool.{Bool, true, false, cond, not, true≢false}
+use mathlib.Core.List.{List, [], _∷_, _++_}
 use mathlib.Core.Logic.{_↔_, _⊎_, inl, inr}
 use mathlib.Core.Path.{_≡_, refl, sym, ap, subst, _∙_}
-use borrow.Author.Tests.{eqb-true, eq-eqb}
+use borrow.Author.Tests.{eqb-true, eq-eqb, not-false}
 use lib.Dec.{eqb}
 use lib.ListN.{length}
 use native.Mathlib.Omega.{arith}
-use Rattle.roles.specs.Sets.{hasRole}
-use Rattle.model.specs.Policy.{person, Holds}
+use Rattle.model.specs.Policy.{Holds}
 use Rattle.text.specs.Forms.{bytes}
 use Rattle.text.specs.Pieces.{split, onto, sameBytes, same-equal, split-piece}
-use Rattle.lines.specs.declared.Entry.{Entry}
 use Rattle.walking.specs.Texts.{Judged, goes, ends, bad, Reading, read, refused}
 use Rattle.fields.specs.Fields.{placed}
-use Rattle.lines.specs.Lines.{Line, header, role, user, has, assign, revoke, goal, end, other, oneField, twoFields, threeFields, fiveFields, lineOf, wellFormed, withinLimit, declared, entry, inTurn, judged, policyLine}
-use Rattle.reading.specs.Policy.{Said, nothing, countsOf, added, entered, answered, judgeLine, readPolicy}
+use Rattle.lines.specs.Lines.{Line, header, role, user, has, assign, revoke, goal, end, other, oneField, twoFields, threeFields, fiveFields, lineOf, asked, tests, goalKind, endKind}
+use Rattle.walking.specs.Turns.{test, inTurn, Pass, Fails, turn-cases, turn-fails, turn-passes}
+use Rattle.reading.specs.Policy.{Said, nothing, countsOf, kindOf, added, isNew, leads, lineAsked, lineTests, judgeLine, readPolicy}
 use Rattle.walking.specs.Meaning.{Unbroken, Above, LineAt, ReadAs, Refusal, refusal-exact, read-exact}
 
 -- ---- one line
@@ -28,13 +27,13 @@ fields line = lineOf (split 9 line)
 module _ (s : Said) (line : List ℕ) where
   -- What the three tests say of the line, after what the lines above say.
   abbrev pub formed : Bool
-  formed = wellFormed (countsOf s) (s .roles) (s .users) (fields line)
+  formed = lineAsked s line .formed
 
   abbrev pub within : Bool
-  within = withinLimit (countsOf s) (fields line)
+  within = lineAsked s line .within
 
   abbrev pub known : Bool
-  known = declared (s .roles) (s .users) (fields line)
+  known = lineAsked s line .known
 
   -- The line is `has`, and its pair stands above already: the user holds the role.
   pub record Repeated : Type 0 where
@@ -69,7 +68,7 @@ module _ (s : Said) (line : List ℕ) where
   -- The line is `end`, after a goal.
   pub record EndLine : Type 0 where
     pub is-end : line ≡ bytes "end"
-    pub after-goal : s .stage ≡ 6
+    pub after-goal : s .stage ≡ goalKind
 
   -- The line is good: it has no fault and is not `end`; what it says is added.
   pub record Good (t : Said) : Type 0 where
@@ -78,7 +77,7 @@ module _ (s : Said) (line : List ℕ) where
     pub is-known : known ≡ true
     pub is-new : Repeated → ⊥
     pub goes-on : line ≡ bytes "end" → ⊥
-    pub adds : t ≡ added s (entry (s .roles) (s .users) (fields line))
+    pub adds : t ≡ added s (lineAsked s line .says)
 
 -- ---- the whole text
 
@@ -153,18 +152,6 @@ end-bytes line = (λ e. whole-piece 9 line (end-piece (split 9 line) e), λ is. 
 
 -- ---- a line's judgement says what it means, and what is meant is judged so
 
--- a line that is neither `has` nor `end`
-plain : Line → Bool
-plain (header edition) = true
-plain (role name) = true
-plain (user name clearance) = true
-plain (has holder held) = false
-plain (assign admin positive negative target) = true
-plain (revoke admin target) = true
-plain (goal roles) = true
-plain end = false
-plain other = true
-
 module _ (s : Said) (line : List ℕ) where
   -- what a judgement says of the line
   Means : Judged Said → Type 0
@@ -172,75 +159,85 @@ module _ (s : Said) (line : List ℕ) where
   Means ends = EndLine s line
   Means (bad k) = Fault s line k
 
-  plain-good : (f : Line) → fields line ≡ f → plain f ≡ true → formed s line ≡ true → within s line ≡ true → known s line ≡ true → Good s line (added s (entry (s .roles) (s .users) f))
-  unfolding plain
-  plain-good f is simple a b c = record {
-    is-formed = a;
-    is-within = b;
-    is-known = c;
-    is-new = λ r. true≢false (sym simple ∙ ap plain (sym is ∙ r .is-has));
-    goes-on = λ e. true≢false (sym simple ∙ ap plain (sym is ∙ end-bytes line .1 e));
-    adds = ap (λ (x : Line). added s (entry (s .roles) (s .users) x)) (sym is);
-  }
+  -- only a has line can repeat a pair, and it does where its user holds the role
+  repeats : (f : Line) → fields line ≡ f → isNew (s .holdings) (asked (countsOf s) (s .roles) (s .users) f .says) ≡ false → Repeated s line
+  unfolding asked isNew
+  repeats (header edition) is old = absurd (true≢false old)
+  repeats (role name) is old = absurd (true≢false old)
+  repeats (user name clearance) is old = absurd (true≢false old)
+  repeats (has holder held) is old = record { holder = holder; held = held; is-has = is; stands = record { held = record { found = not-false _ old } } }
+  repeats (assign admin positive negative target) is old = absurd (true≢false old)
+  repeats (revoke admin target) is old = absurd (true≢false old)
+  repeats (goal roles) is old = absurd (true≢false old)
+  repeats end is old = absurd (true≢false old)
+  repeats other is old = absurd (true≢false old)
 
-  -- a has line whose pair stands above, or is new
-  has-means : (holder held : List ℕ) → fields line ≡ has holder held → formed s line ≡ true → within s line ≡ true → known s line ≡ true → Means (entered s (Entry.Has (placed (s .users) holder) (placed (s .roles) held)))
-  unfolding Means entered entry
-  has-means holder held is a b c = go (hasRole (person (s .holdings) (placed (s .users) holder) .roles) (placed (s .roles) held)) refl
-    where
-      go : (t : Bool) → hasRole (person (s .holdings) (placed (s .users) holder) .roles) (placed (s .roles) held) ≡ t
-          → Means (cond t (bad 11) (goes (added s (Entry.Has (placed (s .users) holder) (placed (s .roles) held)))))
-      go true old = malformed (pair a c (record { holder = holder; held = held; is-has = is; stands = record { held = record { found = old } } }))
-      go false new = record {
-        is-formed = a;
-        is-within = b;
-        is-known = c;
-        is-new = λ r. true≢false (cc (r .stands .held .found));
-        goes-on = λ e. true≢false (cc (end-bytes line .1 e));
-        adds = ap (λ (x : Line). added s (entry (s .roles) (s .users) x)) (sym is);
-      }
+  repeated : Repeated s line → isNew (s .holdings) (lineAsked s line .says) ≡ false
+  unfolding lineAsked asked isNew
+  repeated r = ap (λ (f : Line). isNew (s .holdings) (asked (countsOf s) (s .roles) (s .users) f .says)) (r .is-has) ∙ ap not (r .stands .held .found)
 
-  means-good : (f : Line) → fields line ≡ f → formed s line ≡ true → within s line ≡ true → known s line ≡ true → Means (entered s (entry (s .roles) (s .users) f))
-  unfolding Means entered entry wellFormed countsOf plain
-  means-good (header edition) is a b c = plain-good (header edition) is refl a b c
-  means-good (role name) is a b c = plain-good (role name) is refl a b c
-  means-good (user name clearance) is a b c = plain-good (user name clearance) is refl a b c
-  means-good (has holder held) is a b c = has-means holder held is a b c
-  means-good (assign admin positive negative target) is a b c = plain-good (assign admin positive negative target) is refl a b c
-  means-good (revoke admin target) is a b c = plain-good (revoke admin target) is refl a b c
-  means-good (goal roles) is a b c = plain-good (goal roles) is refl a b c
-  means-good end is a b c = record { is-end = end-bytes line .0 is; after-goal = eqb-true (s .stage) 6 (sym (ap (wellFormed (countsOf s) (s .roles) (s .users)) is) ∙ a) }
-  means-good other is a b c = absurd (true≢false (sym a ∙ ap (wellFormed (countsOf s) (s .roles) (s .users)) is))
+  -- only `end` in its form says the end
+  ending : (f : Line) → asked (countsOf s) (s .roles) (s .users) f .formed ≡ true → kindOf (asked (countsOf s) (s .roles) (s .users) f .says) ≡ endKind → (f ≡ end) × (s .stage ≡ goalKind)
+  unfolding asked kindOf countsOf
+  ending (header edition) fit is = absurd (omega arith)
+  ending (role name) fit is = absurd (omega arith)
+  ending (user name clearance) fit is = absurd (omega arith)
+  ending (has holder held) fit is = absurd (omega arith)
+  ending (assign admin positive negative target) fit is = absurd (omega arith)
+  ending (revoke admin target) fit is = absurd (omega arith)
+  ending (goal roles) fit is = absurd (omega arith)
+  ending end fit is = (refl, eqb-true (s .stage) goalKind fit)
+  ending other fit is = absurd (true≢false (sym fit))
+
+  -- and `end` says it
+  says-end : line ≡ bytes "end" → kindOf (lineAsked s line .says) ≡ endKind
+  unfolding lineAsked asked kindOf
+  says-end is = ap (λ (f : Line). kindOf (asked (countsOf s) (s .roles) (s .users) f .says)) (end-bytes line .1 is)
 
   means-line : Means (judgeLine s line)
-  unfolding Means judgeLine answered policyLine judged inTurn
-  means-line = go (formed s line) (within s line) (known s line) refl refl refl
+  unfolding Means judgeLine lineTests tests leads lineAsked
+  means-line = turn-cases Means bad (lineTests s line) (leads s (lineAsked s line .says)) fails passes
     where
-      go : (f w d : Bool) → formed s line ≡ f → within s line ≡ w → known s line ≡ d → Means (answered s (inTurn f w d (entry (s .roles) (s .users) (fields line))))
-      go true true true a b c = means-good (fields line) refl a b c
-      go true true false a b c = undeclared (record { is-formed = a; is-within = b; is-unknown = c })
-      go true false d a b c = above-limit (record { is-formed = a; is-above = b })
-      go false w d a b c = malformed (form a)
+      numbered : {j k : ℕ} → j ≡ k → Fault s line j → Fault s line k
+      numbered same fault = subst (Fault s line) same fault
+
+      fails : (k : ℕ) → Fails (lineTests s line) k → Fault s line k
+      fails k (inl (a, same)) = numbered same (malformed (form a))
+      fails k (inr (a, inl (b, same))) = numbered same (above-limit (record { is-formed = a; is-above = b }))
+      fails k (inr (a, inr (b, inl (c, same)))) = numbered same (undeclared (record { is-formed = a; is-within = b; is-unknown = c }))
+      fails k (inr (a, inr (b, inr (c, inl (d, same))))) = numbered same (malformed (pair a c (repeats (fields line) refl d)))
+      fails k (inr (a, inr (b, inr (c, inr (d, none))))) = absurd none
+
+      passes : Pass (lineTests s line) → Means (leads s (lineAsked s line .says))
+      passes (a, rest) = go (eqb (kindOf (lineAsked s line .says)) endKind) refl
+        where
+          go : (t : Bool) → eqb (kindOf (lineAsked s line .says)) endKind ≡ t → Means (cond t ends (goes (added s (lineAsked s line .says))))
+          go true is = let (last, below) = ending (fields line) a (eqb-true _ endKind is) in record { is-end = end-bytes line .0 last; after-goal = below }
+          go false is = record {
+            is-formed = a;
+            is-within = rest .0;
+            is-known = rest .1 .0;
+            is-new = λ r. true≢false (sym (rest .1 .1 .0) ∙ repeated r);
+            goes-on = λ e. true≢false (sym (eq-eqb _ endKind (says-end e)) ∙ is);
+            adds = refl;
+          }
 
   -- and the other way round
-  all-pass : formed s line ≡ true → within s line ≡ true → known s line ≡ true → judgeLine s line ≡ entered s (entry (s .roles) (s .users) (fields line))
-  unfolding judgeLine answered policyLine judged inTurn
-  all-pass a b c = rw (a, b, c)
-
   fault-judged : {k : ℕ} → Fault s line k → judgeLine s line ≡ bad k
-  unfolding judgeLine answered policyLine judged inTurn withinLimit entered entry
-  fault-judged (malformed (form a)) = rw a
+  unfolding judgeLine lineTests tests lineAsked asked
+  fault-judged (malformed (form a)) = turn-fails bad (lineTests s line) _ (inl (a, refl))
   fault-judged (malformed (pair a c r)) =
-      all-pass a (ap (withinLimit (countsOf s)) (r .is-has)) c ∙ ap (λ (f : Line). entered s (entry (s .roles) (s .users) f)) (r .is-has) ∙ rw (r .stands .held .found)
-  fault-judged (above-limit f) = rw (f .is-formed, f .is-above)
-  fault-judged (undeclared f) = rw (f .is-formed, f .is-within, f .is-unknown)
+      let b = ap (λ (f : Line). asked (countsOf s) (s .roles) (s .users) f .within) (r .is-has) in
+      turn-fails bad (lineTests s line) _ (inr (a, inr (b, inr (c, inl (repeated r, refl)))))
+  fault-judged (above-limit f) = turn-fails bad (lineTests s line) _ (inr (f .is-formed, inl (f .is-above, refl)))
+  fault-judged (undeclared f) = turn-fails bad (lineTests s line) _ (inr (f .is-formed, inr (f .is-within, inl (f .is-unknown, refl))))
 
   end-judged : EndLine s line → judgeLine s line ≡ ends
-  unfolding wellFormed withinLimit declared entry entered countsOf
+  unfolding judgeLine lineTests tests lineAsked asked countsOf leads isNew kindOf
   end-judged e =
       let is = end-bytes line .1 (e .is-end) in
-      all-pass (ap (wellFormed (countsOf s) (s .roles) (s .users)) is ∙ eq-eqb (s .stage) 6 (e .after-goal)) (ap (withinLimit (countsOf s)) is) (ap (declared (s .roles) (s .users)) is)
-      ∙ ap (λ (f : Line). entered s (entry (s .roles) (s .users) f)) is
+      ap (λ (f : Line). let a = asked (countsOf s) (s .roles) (s .users) f in inTurn bad (tests (a .formed) (a .within) (a .known) ++ (test 11 (isNew (s .holdings) (a .says)) ∷ [])) (leads s (a .says))) is
+      ∙ turn-passes bad (test 11 (eqb (s .stage) goalKind) ∷ test 12 true ∷ test 13 true ∷ test 11 true ∷ []) ends (eq-eqb (s .stage) goalKind (e .after-goal), (refl, (refl, (refl, tt))))
 
   good-judged : {t : Said} → Good s line t → judgeLine s line ≡ goes t
   unfolding Means

@@ -13,9 +13,11 @@ use Rattle.text.specs.Pieces.{part, Sought}
 use Rattle.lines.specs.declared.Counts.{Counts}
 use Rattle.lines.specs.declared.Entry.{Entry}
 use Rattle.lines.specs.declared.PolicyLine.{PolicyLine}
-use Rattle.lines.specs.Lines.{policyLine}
+use Rattle.walking.specs.Turns.{inTurn}
+use Rattle.lines.specs.Lines.{policyLine, assignKind, revokeKind, goalKind}
 use Rattle.reading.specs.declared.policy.Rules.{Rules}
-use Rattle.reading.specs.Policy.{Said, nothing, countsOf, added, entered, noAssign, noRevoke}
+use Rattle.reading.specs.Policy.{Said, nothing, countsOf, kindOf, noted, added, isNew, leads, noAssign, noRevoke}
+use Rattle.reading.specs.Answer.{entered}
 use Rattle.tables.specs.Padded.{padded}
 use Rattle.tables.specs.Storing.{more-one, store-next}
 use Rattle.reading.specs.Between.{Between, fits-here, between-end, between-tail, between-bad, between-added, between-last, between-more}
@@ -28,7 +30,7 @@ pub record Reached (text : List ℕ) (at number : ℕ) (roles users : List ℕ) 
   pub said : Said
   pub between : Between text at number c roles users said
   -- the directory is closed
-  pub late : 4 ≤ said .stage
+  pub late : assignKind ≤ said .stage
   -- what a line reader asks of the tables
   pub tables : (4 * c .roles ≤ length roles) × (4 * c .users ≤ length users) × (c .roles ≤ 128)
   -- the arrays have what the lines so far say
@@ -74,13 +76,13 @@ module _ {text : List ℕ} {at number : ℕ} {roles users : List ℕ} {p : Rules
 -- ---- the arrays and counts after each kind of line
 
 module _ {text : List ℕ} {at number : ℕ} {roles users : List ℕ} {p : Rules} {c : Counts} (r : Reached text at number roles users p c) where
-  pub counts-assign : (rule : Assign) → record { stage = 4; roles = c .roles; users = c .users; assigns = c .assigns + 1; revokes = c .revokes; goals = c .goals } ≡ countsOf (added (r .said) (Entry.Assign rule))
-  unfolding countsOf added
-  counts-assign rule = λ i. record { stage = 4; roles = r .between .counted i .roles; users = r .between .counted i .users; assigns = more-one (r .said .assigns) rule (ap (λ (d : Counts). d .assigns) (r .between .counted)) i; revokes = r .between .counted i .revokes; goals = r .between .counted i .goals }
+  pub counts-assign : (rule : Assign) → record { stage = assignKind; roles = c .roles; users = c .users; assigns = c .assigns + 1; revokes = c .revokes; goals = c .goals } ≡ countsOf (added (r .said) (Entry.Assign rule))
+  unfolding countsOf added noted kindOf
+  counts-assign rule = λ i. record { stage = assignKind; roles = r .between .counted i .roles; users = r .between .counted i .users; assigns = more-one (r .said .assigns) rule (ap (λ (d : Counts). d .assigns) (r .between .counted)) i; revokes = r .between .counted i .revokes; goals = r .between .counted i .goals }
 
   pub laid-assign : (rule : Assign) → c .assigns < 256
       → record { refusal = p .refusal; line = p .line; assigns = set (p .assigns) (c .assigns) rule; revokes = p .revokes; goals = p .goals; counts = p .counts } ≡ laidWith (countsOf nothing) (added (r .said) (Entry.Assign rule))
-  unfolding laidWith added countsOf
+  unfolding laidWith added noted countsOf
   laid-assign rule room = λ i. record {
     refusal = r .laid i .refusal;
     line = r .laid i .line;
@@ -90,13 +92,13 @@ module _ {text : List ℕ} {at number : ℕ} {roles users : List ℕ} {p : Rules
     counts = r .laid i .counts;
   }
 
-  pub counts-revoke : (rule : Revoke) → record { stage = 5; roles = c .roles; users = c .users; assigns = c .assigns; revokes = c .revokes + 1; goals = c .goals } ≡ countsOf (added (r .said) (Entry.Revoke rule))
-  unfolding countsOf added
-  counts-revoke rule = λ i. record { stage = 5; roles = r .between .counted i .roles; users = r .between .counted i .users; assigns = r .between .counted i .assigns; revokes = more-one (r .said .revokes) rule (ap (λ (d : Counts). d .revokes) (r .between .counted)) i; goals = r .between .counted i .goals }
+  pub counts-revoke : (rule : Revoke) → record { stage = revokeKind; roles = c .roles; users = c .users; assigns = c .assigns; revokes = c .revokes + 1; goals = c .goals } ≡ countsOf (added (r .said) (Entry.Revoke rule))
+  unfolding countsOf added noted kindOf
+  counts-revoke rule = λ i. record { stage = revokeKind; roles = r .between .counted i .roles; users = r .between .counted i .users; assigns = r .between .counted i .assigns; revokes = more-one (r .said .revokes) rule (ap (λ (d : Counts). d .revokes) (r .between .counted)) i; goals = r .between .counted i .goals }
 
   pub laid-revoke : (rule : Revoke) → c .revokes < 256
       → record { refusal = p .refusal; line = p .line; assigns = p .assigns; revokes = set (p .revokes) (c .revokes) rule; goals = p .goals; counts = p .counts } ≡ laidWith (countsOf nothing) (added (r .said) (Entry.Revoke rule))
-  unfolding laidWith added countsOf
+  unfolding laidWith added noted countsOf
   laid-revoke rule room = λ i. record {
     refusal = r .laid i .refusal;
     line = r .laid i .line;
@@ -106,13 +108,13 @@ module _ {text : List ℕ} {at number : ℕ} {roles users : List ℕ} {p : Rules
     counts = r .laid i .counts;
   }
 
-  pub counts-goal : (goal : RoleSet) → record { stage = 6; roles = c .roles; users = c .users; assigns = c .assigns; revokes = c .revokes; goals = c .goals + 1 } ≡ countsOf (added (r .said) (Entry.Goal goal))
-  unfolding countsOf added
-  counts-goal goal = λ i. record { stage = 6; roles = r .between .counted i .roles; users = r .between .counted i .users; assigns = r .between .counted i .assigns; revokes = r .between .counted i .revokes; goals = more-one (r .said .goals) goal (ap (λ (d : Counts). d .goals) (r .between .counted)) i }
+  pub counts-goal : (goal : RoleSet) → record { stage = goalKind; roles = c .roles; users = c .users; assigns = c .assigns; revokes = c .revokes; goals = c .goals + 1 } ≡ countsOf (added (r .said) (Entry.Goal goal))
+  unfolding countsOf added noted kindOf
+  counts-goal goal = λ i. record { stage = goalKind; roles = r .between .counted i .roles; users = r .between .counted i .users; assigns = r .between .counted i .assigns; revokes = r .between .counted i .revokes; goals = more-one (r .said .goals) goal (ap (λ (d : Counts). d .goals) (r .between .counted)) i }
 
   pub laid-goal : (goal : RoleSet) → c .goals < 32
       → record { refusal = p .refusal; line = p .line; assigns = p .assigns; revokes = p .revokes; goals = set (p .goals) (c .goals) goal; counts = p .counts } ≡ laidWith (countsOf nothing) (added (r .said) (Entry.Goal goal))
-  unfolding laidWith added countsOf
+  unfolding laidWith added noted countsOf
   laid-goal goal room = λ i. record {
     refusal = r .laid i .refusal;
     line = r .laid i .line;
@@ -132,8 +134,8 @@ module _ {text : List ℕ} {at number : ℕ} {roles users : List ℕ} {p : Rules
 module _ {text : List ℕ} {at number : ℕ} {roles users : List ℕ} {p : Rules} {c : Counts} (r : Reached text at number roles users p c) {stop : ℕ} (sought : Sought text at 10 stop) (here : stop < length text) {answer : PolicyLine} (given : answer ≡ policyLine c (rows (c .roles) roles) (rows (c .users) users) (part text at stop)) where
   pub assign-added : {rule : Assign} → answer ≡ PolicyLine.Good (Entry.Assign rule)
       → Reached text (stop + 1) (number + 1) roles users (record { refusal = p .refusal; line = p .line; assigns = set (p .assigns) (c .assigns) rule; revokes = p .revokes; goals = p .goals; counts = p .counts })
-      (record { stage = 4; roles = c .roles; users = c .users; assigns = c .assigns + 1; revokes = c .revokes; goals = c .goals })
-  unfolding entered added
+      (record { stage = assignKind; roles = c .roles; users = c .users; assigns = c .assigns + 1; revokes = c .revokes; goals = c .goals })
+  unfolding entered leads isNew kindOf inTurn added noted
   assign-added {rule} good = record {
     said = added (r .said) (Entry.Assign rule);
     between = between-added (r .between) sought here given good refl (counts-assign r rule) (r .between .named) (r .between .listed);
@@ -144,8 +146,8 @@ module _ {text : List ℕ} {at number : ℕ} {roles users : List ℕ} {p : Rules
 
   pub revoke-added : {rule : Revoke} → answer ≡ PolicyLine.Good (Entry.Revoke rule)
       → Reached text (stop + 1) (number + 1) roles users (record { refusal = p .refusal; line = p .line; assigns = p .assigns; revokes = set (p .revokes) (c .revokes) rule; goals = p .goals; counts = p .counts })
-      (record { stage = 5; roles = c .roles; users = c .users; assigns = c .assigns; revokes = c .revokes + 1; goals = c .goals })
-  unfolding entered added
+      (record { stage = revokeKind; roles = c .roles; users = c .users; assigns = c .assigns; revokes = c .revokes + 1; goals = c .goals })
+  unfolding entered leads isNew kindOf inTurn added noted
   revoke-added {rule} good = record {
     said = added (r .said) (Entry.Revoke rule);
     between = between-added (r .between) sought here given good refl (counts-revoke r rule) (r .between .named) (r .between .listed);
@@ -156,8 +158,8 @@ module _ {text : List ℕ} {at number : ℕ} {roles users : List ℕ} {p : Rules
 
   pub goal-added : {goal : RoleSet} → answer ≡ PolicyLine.Good (Entry.Goal goal)
       → Reached text (stop + 1) (number + 1) roles users (record { refusal = p .refusal; line = p .line; assigns = p .assigns; revokes = p .revokes; goals = set (p .goals) (c .goals) goal; counts = p .counts })
-      (record { stage = 6; roles = c .roles; users = c .users; assigns = c .assigns; revokes = c .revokes; goals = c .goals + 1 })
-  unfolding entered added
+      (record { stage = goalKind; roles = c .roles; users = c .users; assigns = c .assigns; revokes = c .revokes; goals = c .goals + 1 })
+  unfolding entered leads isNew kindOf inTurn added noted
   goal-added {goal} good = record {
     said = added (r .said) (Entry.Goal goal);
     between = between-added (r .between) sought here given good refl (counts-goal r goal) (r .between .named) (r .between .listed);

@@ -9,28 +9,25 @@ use Rattle.tables.specs.declared.Name.{Name}
 use Rattle.tables.specs.Names.{wordsOf, rows}
 use Rattle.text.specs.Pieces.{split}
 use Rattle.lines.specs.declared.Counts.{Counts}
-use Rattle.lines.specs.declared.Entry.{Entry}
-use Rattle.lines.specs.declared.PolicyLine.{PolicyLine}
-use Rattle.lines.specs.Lines.{policyLine}
+use Rattle.lines.specs.Lines.{assignKind}
 use Rattle.reading.specs.declared.directory.Directory.{Directory}
 use Rattle.reading.specs.declared.policy.Rules.{Rules}
-use Rattle.walking.specs.Texts.{Reading, read, refused}
-use Rattle.reading.specs.Policy.{Said, nothing, countsOf, added, judgeLine, readPolicy}
+use Rattle.walking.specs.Texts.{goes, Reading, read, refused}
+use Rattle.reading.specs.Policy.{Said, nothing, countsOf, judgeLine, readPolicy}
 use Rattle.tables.specs.Padded.{padded}
 use Rattle.walking.specs.Walk.{On}
 use Rattle.reading.specs.Directory.{Opening, laidWith as directoryWith, laidOut as directoryLaid, refusedDirectory, directoryOf, directoryRead, readDirectory}
 use Rattle.reading.specs.Rules.{laidWith, laidOut, refusedRules, rulesOf, rulesRead}
-use Rattle.reading.specs.Bounded.{Bounded}
+use Rattle.reading.specs.Sound.{Sound, read-sound}
 use Rattle.tables.specs.Storing.{table-room, table-names}
 use Rattle.walking.specs.Kept.{lines-keep}
-use Rattle.reading.specs.Kept.{line-keeps, read-bounded}
-use Rattle.reading.specs.Order.{OfDirectory, early-entry}
+use Rattle.reading.specs.Order.{stage-up, directory-stays}
 use Rattle.reading.specs.Opened.{Opened, Begins, Outcome, directory-exact}
 use Rattle.reading.specs.PolicyExact.{PolicyRefusal, policy-refusal-exact}
 
 -- what a policy says, within the limits, laid out in both records
 pub record Laid (s : Said) (D : Directory) (R : Rules) : Type 0 where
-  pub bounded : Bounded s
+  pub sound : Sound s
   pub directory : D ≡ directoryWith (D .at) (D .line) (D .counts) s
   pub roles : D .counts .roles ≡ length (s .roles)
   pub users : D .counts .users ≡ length (s .users)
@@ -85,14 +82,14 @@ opened {text} {D} directed = record {
     counted = counted;
     named = table-names (s .roles) (D .counts .roles) role-count role-table;
     listed = table-names (s .users) (D .counts .users) user-count user-table;
-    bounded = directed .begins .bounded;
+    sound = directed .begins .sound;
     on = on-moved (ap (λ (q : Directory). q .at) (directed .laid)) (ap (λ (q : Directory). q .line) (directed .laid)) (directed .begins .on);
   };
   late = omega (arith, directed .begins .late);
   tables = (
-    table-room (s .roles) (D .counts .roles) role-count role-table (directed .begins .bounded .roles),
-    table-room (s .users) (D .counts .users) user-count user-table (omega (arith, directed .begins .bounded .users)),
-    omega (arith, role-count, directed .begins .bounded .roles),
+    table-room (s .roles) (D .counts .roles) role-count role-table (directed .begins .sound .roles .most),
+    table-room (s .users) (D .counts .users) user-count user-table (omega (arith, directed .begins .sound .users .most)),
+    omega (arith, role-count, directed .begins .sound .roles .most),
   );
   no-assigns = directed .begins .ruleless .assigns;
   no-revokes = directed .begins .ruleless .revokes;
@@ -132,27 +129,16 @@ rules-untold text {R} given some = go (readPolicy text) refl given
 
 -- what the lines of the rules keep of the directory
 record Keeps (s t : Said) : Type 0 where
-  late : 4 ≤ t .stage
+  late : assignKind ≤ t .stage
   roles : s .roles ≡ t .roles
   users : s .users ≡ t .users
   holdings : s .holdings ≡ t .holdings
 
-entry-keeps : (s t : Said) (line : List ℕ) (e : Entry) → policyLine (countsOf t) (t .roles) (t .users) line ≡ PolicyLine.Good e → Keeps s t → Keeps s (added t e)
-unfolding added countsOf
-entry-keeps s t line e told k = go e told
-  where
-    early : {d : Entry} → policyLine (countsOf t) (t .roles) (t .users) line ≡ PolicyLine.Good d → OfDirectory d → ⊥
-    early is of = omega (arith, early-entry (countsOf t) (t .roles) (t .users) line is of, k .late)
-
-    go : (d : Entry) → policyLine (countsOf t) (t .roles) (t .users) line ≡ PolicyLine.Good d → Keeps s (added t d)
-    go Entry.Header is = absurd (early is tt)
-    go (Entry.Role name) is = absurd (early is tt)
-    go (Entry.User name clearance) is = absurd (early is tt)
-    go (Entry.Has holder held) is = absurd (early is tt)
-    go (Entry.Assign rule) is = record { late = omega arith; roles = k .roles; users = k .users; holdings = k .holdings }
-    go (Entry.Revoke rule) is = record { late = omega arith; roles = k .roles; users = k .users; holdings = k .holdings }
-    go (Entry.Goal set) is = record { late = omega arith; roles = k .roles; users = k .users; holdings = k .holdings }
-    go Entry.End is = k
+line-keeps : (s t u : Said) (line : List ℕ) → judgeLine t line ≡ goes u → Keeps s t → Keeps s u
+line-keeps s t u line is k =
+    let below : assignKind ≤ u .stage = omega (arith, stage-up t u line is, k .late) in
+    let (roles, users, holdings) = directory-stays t u line is below in
+    record { late = below; roles = k .roles ∙ roles; users = k .users ∙ users; holdings = k .holdings ∙ holdings }
 
 -- Both records of a text that is read have what it says.
 pub told : (text : List ℕ) {D : Directory} {R : Rules} → Directed text D → R ≡ rulesRead text → R .refusal ≡ 0 → Told text D R
@@ -164,7 +150,7 @@ told text {D} {R} directed given none = go (readPolicy text) refl given
 
     kept : (s : Said) → readPolicy text ≡ read s → Keeps (o .said) s
     kept s is =
-        lines-keep judgeLine 11 (Keeps (o .said)) (λ t u line. line-keeps (Keeps (o .said)) (λ v bytes e. entry-keeps (o .said) v bytes e) t u line) (o .said) s (o .number) (split 10 (drop (o .at) text))
+        lines-keep judgeLine 11 (Keeps (o .said)) (line-keeps (o .said)) (o .said) s (o .number) (split 10 (drop (o .at) text))
         (sym (directed .begins .on .left) ∙ is) (record { late = omega (arith, directed .begins .late); roles = refl; users = refl; holdings = refl })
 
     go : (r : Reading Said) → readPolicy text ≡ r → R ≡ rulesOf r → Told text D R
@@ -172,7 +158,7 @@ told text {D} {R} directed given none = go (readPolicy text) refl given
       said = s;
       is = is;
       laid = record {
-        bounded = read-bounded text s is;
+        sound = read-sound text is;
         directory = λ i. record {
           refusal = directed .laid i .refusal;
           line = D .line;
@@ -232,7 +218,7 @@ module _ {s : Said} {D : Directory} {R : Rules} (l : Laid s D R) where
   -- what a reader of evidence asks of the tables
   pub tables-laid : (4 * R .counts .roles ≤ length (D .roles)) × (R .counts .roles ≤ 128) × (4 * R .counts .users ≤ length (D .users))
   tables-laid = (
-    table-room (s .roles) (R .counts .roles) role-count role-table (l .bounded .roles),
-    omega (arith, role-count, l .bounded .roles),
-    table-room (s .users) (R .counts .users) user-count user-table (omega (arith, l .bounded .users)),
+    table-room (s .roles) (R .counts .roles) role-count role-table (l .sound .roles .most),
+    omega (arith, role-count, l .sound .roles .most),
+    table-room (s .users) (R .counts .users) user-count user-table (omega (arith, l .sound .users .most)),
   )

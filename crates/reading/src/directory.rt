@@ -1,10 +1,15 @@
 // The directory of a policy text, its roles, its users and what they hold, read line by line into arrays.
 ghost use mathlib.Core.Path.{_≡_};
-ghost use Rattle.reading.specs.Policy.{codeOf};
+ghost use Rattle.lines.specs.Lines.{codeOf};
 ghost use Rattle.reading.specs.Directory.{refusedDirectory, directoryRead};
+use lines::ASSIGN;
 use lines::Counts;
 use lines::Entry;
+use lines::HAS;
+use lines::HEADER;
 use lines::PolicyLine;
+use lines::ROLE;
+use lines::USER;
 use lines::read_line;
 use model::Person;
 use roles::RoleSet;
@@ -84,12 +89,12 @@ pub fn read_directory(text: &[u8]) -> Directory
         };
         match entry {
             Entry::Header => {
-                c.stage = 1;
+                c.stage = HEADER;
             }
             Entry::Role(name) => {
                 tables::store(&mut d.roles, c.roles, name);
                 c.roles += 1;
-                c.stage = 1;
+                c.stage = ROLE;
             }
             Entry::User(name, clearance) => {
                 let user = c.users;
@@ -99,7 +104,7 @@ pub fn read_directory(text: &[u8]) -> Directory
                     roles: RoleSet::empty(),
                 };
                 c.users += 1;
-                c.stage = 2;
+                c.stage = USER;
             }
             Entry::Has(user, role) => {
                 let person = d.persons[user];
@@ -111,11 +116,11 @@ pub fn read_directory(text: &[u8]) -> Directory
                     clearance: person.clearance,
                     roles: held.with(role),
                 };
-                c.stage = 3;
+                c.stage = HAS;
             }
             // a line of the rules: they are read from here on, and no line of the directory with them
             _ => {
-                c.stage = 4;
+                c.stage = ASSIGN;
                 d.line = here;
                 d.at = from;
                 d.counts = c;

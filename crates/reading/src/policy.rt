@@ -3,9 +3,12 @@ ghost use mathlib.Core.Path.{_≡_};
 ghost use Rattle.reading.specs.Rules.{refusedRules, rulesRead};
 ghost use Rattle.reading.specs.Opened.{Opened};
 use crate::directory::code;
+use lines::ASSIGN;
 use lines::Counts;
 use lines::Entry;
+use lines::GOAL;
 use lines::PolicyLine;
+use lines::REVOKE;
 use lines::read_line;
 use model::Assign;
 use model::Revoke;
@@ -87,19 +90,19 @@ pub fn read_rules<'a>(
                 let next = c.assigns;
                 r.assigns[next] = rule;
                 c.assigns += 1;
-                c.stage = 4;
+                c.stage = ASSIGN;
             }
             Entry::Revoke(rule) => {
                 let next = c.revokes;
                 r.revokes[next] = rule;
                 c.revokes += 1;
-                c.stage = 5;
+                c.stage = REVOKE;
             }
             Entry::Goal(goal) => {
                 let next = c.goals;
                 r.goals[next] = goal;
                 c.goals += 1;
-                c.stage = 6;
+                c.stage = GOAL;
             }
             Entry::End => {
                 if at < end {

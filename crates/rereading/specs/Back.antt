@@ -22,9 +22,10 @@ use Rattle.typings.specs.TypingLines.{typingLine}
 use Rattle.typings.specs.TypingText.{Typed, untyped, added, answered, judgeLine, readTyping, tableOf}
 use Rattle.verdicts.specs.TypingLaid.{label-read, plus-read, minus-read}
 use Rattle.rereading.specs.Cuts.{free, cut-first}
-use Rattle.rereading.specs.Named.{Spelt, Named}
+use Rattle.tables.specs.Named.{Spelt, Named}
 use Rattle.rereading.specs.Standing.{Standing, none, more, standing, to-end}
-use Rattle.rereading.specs.Fits.{Inside, Fits}
+use Rattle.rereading.specs.Fits.{Fits}
+use Rattle.fields.specs.Roles.{Inside}
 use Rattle.rereading.specs.Rows.{header-good, end-good, lineText, line-free, row-good}
 
 -- ---- a line that is written with its LF, as a reader finds it

@@ -1,34 +1,27 @@
 -- A typing that is read has a row for each role, and its sets have only declared roles.
-use Prim.Native.Nat.{ℕ, suc, _+_, _<_}
+use Prim.Native.Nat.{ℕ, suc, _+_}
 use mathlib.Core.Bool.{Bool, true, false, _&&_, and-eq-true-iff, false≢true}
 use mathlib.Core.List.{List, List·Memᴰ as Listed, List·Memᴰ·not-nil as not-nil}
 use mathlib.Core.Path.{_≡_, refl, subst, _∙_}
-use borrow.Author.Tests.{ltb-true, eqb-true}
-use lib.Dec.{eqb, ltb}
+use borrow.Author.Tests.{eqb-true}
+use lib.Dec.{eqb}
 use lib.ListN.{length}
 use native.Mathlib.Numerals.{add-one}
 use native.Mathlib.Omega.{arith}
 use Rattle.roles.specs.declared.RoleSet.{RoleSet}
-use Rattle.roles.specs.Members.{_∈_, Sized}
 use Rattle.tables.specs.declared.Name.{Name}
-use Rattle.text.specs.Forms.{namesOf}
 use Rattle.text.specs.Pieces.{split}
 use Rattle.walking.specs.Texts.{Judged, goes, ends, bad, read}
-use Rattle.fields.specs.Fields.{placed, isDeclared, allDeclared, rolesOf}
+use Rattle.fields.specs.Fields.{placed, allDeclared}
+use Rattle.fields.specs.Roles.{Inside, roles-inside}
 use Rattle.walking.specs.Kept.{text-keeps}
 use Rattle.walking.specs.Meaning.{read-exact}
 use Rattle.typings.specs.declared.TypingEntry.{TypingEntry}
 use Rattle.fields.specs.Turns.{turnOf}
 use Rattle.typings.specs.TypingLines.{Line, header, row, end, other, lineOf, wellFormed, named, entry, answerTo, judged, typingLine}
 use Rattle.typings.specs.TypingText.{Typed, untyped, added, answered, judgeLine, readTyping}
-use Rattle.verdicts.specs.Sizes.{roles-sized, each-more}
+use Rattle.text.specs.Lists.{each-more}
 use Rattle.verdicts.specs.TypingLaid.{read-rows}
-use Rattle.rereading.specs.Roles.{role-passes}
-
--- The words of a set are of 64 bits, and all its roles are below a number.
-pub record Inside (roles : ℕ) (s : RoleSet) : Type 0 where
-  pub sized : Sized s
-  pub below : {role : ℕ} → role ∈ s → role < roles
 
 -- A label, a plus set and a minus set for each name, and the sets have only the roles of names.
 pub record Fits (names : List Name) (t : Typed) : Type 0 where
@@ -38,14 +31,6 @@ pub record Fits (names : List Name) (t : Typed) : Type 0 where
   pub minus : length (t .minus) ≡ length names
   pub plus-inside : (s : RoleSet) → Listed s (t .plus) → Inside (length names) s
   pub minus-inside : (s : RoleSet) → Listed s (t .minus) → Inside (length names) s
-
--- the roles of a set field whose names are declared
-roles-inside : (names : List Name) (field : List ℕ) → allDeclared names field ≡ true → Inside (length names) (rolesOf names field)
-unfolding rolesOf allDeclared isDeclared
-roles-inside names field known = record {
-  sized = roles-sized names field;
-  below = λ {role} found. ltb-true role (length names) (role-passes names (λ place. ltb place (length names)) (namesOf field) known found);
-}
 
 -- ---- what a judged line means for the rows above it
 

@@ -1,8 +1,6 @@
 -- A typing that is written reads back as itself.
 pub mod Cuts
 pub mod Joined
-pub mod Roles
-pub mod Named
 pub mod Fits
 pub mod Standing
 pub mod Sets

@@ -21,9 +21,9 @@ use Rattle.fields.specs.Turns.{turnOf}
 use Rattle.typings.specs.TypingLines.{row, oneField, twoFields, lineOf, wellFormed, named, entry, answerTo, judged, typingLine}
 use Rattle.rereading.specs.Cuts.{free, cut-first, cut-last, free-join, free-name}
 use Rattle.rereading.specs.Joined.{Apart}
-use Rattle.rereading.specs.Named.{Spelt, Named}
+use Rattle.tables.specs.Named.{Spelt, Named}
 use Rattle.rereading.specs.Standing.{spelled-form, spelled-placed}
-use Rattle.rereading.specs.Fits.{Inside}
+use Rattle.fields.specs.Roles.{Inside}
 use Rattle.rereading.specs.Sets.{set-form, set-declared, set-free, set-back}
 
 -- neither a tab nor LF stands in a field

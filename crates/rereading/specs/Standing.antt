@@ -18,7 +18,7 @@ use Rattle.steps.specs.Places.{stands-at, at-listed}
 use Rattle.writing.specs.Written.{spelled}
 use Rattle.writing.specs.Spelling.{spelled-packed}
 use Rattle.spelling.specs.TypingText.{namesFrom}
-use Rattle.rereading.specs.Named.{Spelt, Named}
+use Rattle.tables.specs.Named.{Spelt, Named}
 
 -- The names from a number on: each spells a name and stands at its number, and they go to the end of the table.
 pub data Standing (table : List Name) : ℕ → List Name → Type 0 where

@@ -4,10 +4,10 @@ use mathlib.Core.Bool.{Bool, true, false, not, _&&_, _||_, false≢true, or-true
 use mathlib.Core.Logic.{_⊎_, inl, inr}
 use mathlib.Core.Path.{_≡_, refl, sym, ap, ap₂, _∙_, subst, subst⁻¹}
 use borrow.Author.Tests.{lt-ltb, le-ltb, eqb-true, eqb-false, eq-eqb, ne-eqb}
-use lib.Bits.{bitAnd, bitOr, bitXor, or-self, or-comm, or-zero-r, and-le-l}
+use lib.Bits.{bitAnd, bitOr, bitXor, or-self, or-comm, or-zero-r, or-lt, and-le-l}
 use lib.Count.{trailingZeros}
 use lib.Dec.{eqb}
-use lib.Pow.{pow-pos}
+use lib.Pow.{pow-lt, pow-pos}
 use native.Mathlib.Decide.{decLt}
 use native.Mathlib.Nat.{lt-of-le-of-lt, add-sub-cancel-left}
 use native.Mathlib.Omega.{arith}
@@ -412,3 +412,24 @@ lowest-none s h role = go (decLt role 128)
     go : Dec (role < 128) → hasRole s role ≡ false
     go (yes f) = lowest-least s role (omega arith)
     go (no f) = has-nowhere s role (omega arith)
+
+-- ---- words of 64 bits
+
+pub union-sized : {s t : RoleSet} → Sized s → Sized t → Sized (unionOf s t)
+unfolding unionOf
+union-sized {s} {t} one two = record { low = or-lt 64 (s .low) (t .low) (one .low) (two .low); high = or-lt 64 (s .high) (t .high) (one .high) (two .high) }
+
+pub single-sized : (role : ℕ) → Sized (singleOf role)
+unfolding singleOf
+single-sized role = go (decLt role 64) (decLt role 128)
+  where
+    go : Dec (role < 64) → Dec (role < 128) → Sized (singleOf role)
+    go (yes h) d = rw (lt-ltb role 64 h) (record { low = pow-lt h; high = pow-pos 64 })
+    go (no g) (yes h) =
+        let fits : role - 64 < 64 = omega arith in
+        rw (le-ltb role 64 (omega arith), lt-ltb role 128 h) (record { low = pow-pos 64; high = pow-lt fits })
+    go (no g) (no h) = rw (le-ltb role 64 (omega arith), le-ltb role 128 (omega arith)) empty-sized
+
+pub with-sized : {s : RoleSet} (role : ℕ) → Sized s → Sized (withOf s role)
+unfolding withOf
+with-sized role sized = union-sized sized (single-sized role)

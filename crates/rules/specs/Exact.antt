@@ -7,7 +7,7 @@ use native.Mathlib.Decide.{decLt}
 use native.Mathlib.Omega.{arith}
 use Rattle.roles.specs.declared.RoleSet.{RoleSet}
 use Rattle.roles.specs.Sets.{emptySet, hasRole, singleOf, withOf, withoutOf, sharesRole, includes}
-use Rattle.roles.specs.Members.{_∈_, Share, Within, Sized, below, absent-test, empty-sized, single-own, single-only, with-cases, with-old, with-new, without-old, without-gone, without-other}
+use Rattle.roles.specs.Members.{_∈_, Share, Within, Sized, below, absent-test, empty-sized, single-own, single-only, with-cases, with-old, with-new, without-old, without-gone, without-other, with-sized}
 use Rattle.model.specs.declared.Typing.{Typing as Table}
 use Rattle.model.specs.declared.Assign.{Assign}
 use Rattle.model.specs.declared.Revoke.{Revoke}
@@ -16,7 +16,7 @@ use Rattle.model.specs.Policy.{L, H, _⊑_}
 use Rattle.model.specs.Typing.{Typing, Inconsistent, Held, Absent, closure, UpTo, Clash, Suits, HeldFor, AbsentFor, AssignPasses, RevokePasses, WellTyped, GoalPasses}
 use Rattle.model.specs.Meaning.{meaning}
 use Rattle.sheets.specs.Turned.{setsOf, turnedOf}
-use Rattle.sheets.specs.Members.{below-exact, sets-exact, sets-sized, union-sized, single-sized}
+use Rattle.sheets.specs.Members.{below-exact, sets-exact, sets-sized}
 use Rattle.closing.specs.declared.Pair.{Pair}
 use Rattle.closing.specs.Rounds.{linksOf, linksFor, closeOf}
 use Rattle.closing.specs.Clauses.{SizedPair, Fits, own-plus, own-minus, needed-exact, needed-sized, opposed-exact, opposed-sized, high-sized}
@@ -184,11 +184,6 @@ suits-more {Γ} {target} {held} {absent} {held′} {absent′} more-held more-ab
     up-to : UpTo Γ held (Γ .label target) → UpTo Γ held′ (Γ .label target)
     up-to (UpTo.lowest low) = UpTo.lowest low
     up-to (UpTo.reached {role = role} h up) = UpTo.reached (more-held role h) up
-
--- one role more leaves words of 64 bits
-with-sized : {s : RoleSet} (role : ℕ) → Sized s → Sized (withOf s role)
-unfolding withOf
-with-sized role sized = union-sized sized (single-sized role)
 
 module _ {t : Table} {roles : ℕ} (laid : Laid t roles) where
   -- the target's minus set lies within absent without the target

@@ -72,7 +72,7 @@ module _ {s : Said} {D : Directory} {R : Rules} (l : Laid s D R) where
     stage = l .rules i .counts .stage;
     roles = [];
     users = users-laid l i;
-    holdings = (ap (λ (r : Rules). take (r .counts .users) (D .persons)) (l .rules) ∙ ap (take (length (s .users))) (people-laid l) ∙ laid-first 64 nobody (s .holdings) (sym (l .bounded .holdings))) i;
+    holdings = (ap (λ (r : Rules). take (r .counts .users) (D .persons)) (l .rules) ∙ ap (take (length (s .users))) (people-laid l) ∙ laid-first 64 nobody (s .holdings) (sym (l .sound .people))) i;
     assigns = (ap (λ (r : Rules). take (r .counts .assigns) (r .assigns)) (l .rules) ∙ laid-first 256 noAssign (s .assigns) refl) i;
     revokes = (ap (λ (r : Rules). take (r .counts .revokes) (r .revokes)) (l .rules) ∙ laid-first 256 noRevoke (s .revokes) refl) i;
     goals = (ap (λ (r : Rules). take (r .counts .goals) (r .goals)) (l .rules) ∙ laid-first 32 emptySet (s .goals) refl) i;
@@ -82,9 +82,9 @@ module _ {s : Said} {D : Directory} {R : Rules} (l : Laid s D R) where
   pub counted-laid : Counted (arrays (D .users) (D .persons) R)
   unfolding laidOut laidWith countsOf
   counted-laid = record {
-    users = omega (arith, ap (λ (r : Rules). r .counts .users) (l .rules), l .bounded .users);
-    assigns = omega (arith, ap (λ (r : Rules). r .counts .assigns) (l .rules), l .bounded .assigns);
-    revokes = omega (arith, ap (λ (r : Rules). r .counts .revokes) (l .rules), l .bounded .revokes);
+    users = omega (arith, ap (λ (r : Rules). r .counts .users) (l .rules), l .sound .users .most);
+    assigns = omega (arith, ap (λ (r : Rules). r .counts .assigns) (l .rules), l .sound .assigns .most);
+    revokes = omega (arith, ap (λ (r : Rules). r .counts .revokes) (l .rules), l .sound .revokes .most);
     named = tables-laid l .2;
   }
 

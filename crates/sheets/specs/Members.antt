@@ -3,14 +3,11 @@ use Prim.Native.Nat.{ℕ, zero, suc, _-_, _≤_, _<_}
 use mathlib.Core.Bool.{Bool, true, false}
 use mathlib.Core.Logic.{_⊎_, inl, inr, ⊎-elim, _↔_}
 use mathlib.Core.Path.{_≡_, refl}
-use borrow.Author.Tests.{lt-ltb, le-ltb}
-use lib.Bits.{or-lt}
-use lib.Pow.{pow-lt, pow-pos}
 use native.Mathlib.Decide.{decLt}
 use native.Mathlib.Omega.{arith}
 use Rattle.roles.specs.declared.RoleSet.{RoleSet}
-use Rattle.roles.specs.Sets.{hasRole, singleOf, unionOf}
-use Rattle.roles.specs.Members.{_∈_, Sized, below, union-cases, union-left, union-right, single-own, single-only, empty-none, empty-sized}
+use Rattle.roles.specs.Sets.{hasRole, singleOf}
+use Rattle.roles.specs.Members.{_∈_, Sized, below, union-cases, union-left, union-right, single-own, single-only, empty-none, empty-sized, union-sized, single-sized}
 use Rattle.sheets.specs.Turned.{addIf, addOwn, rolesBelow, setsBelow, setsOf}
 
 -- a number below the next one is below this one, or it is this one
@@ -93,21 +90,6 @@ unfolding setsOf
 sets-exact own members role = (sets-told 128 own members role, λ brought. sets-tests 128 own members role brought (below (brought .is-member)))
 
 -- ---- words of 64 bits
-
-pub union-sized : {s t : RoleSet} → Sized s → Sized t → Sized (unionOf s t)
-unfolding unionOf
-union-sized {s} {t} one two = record { low = or-lt 64 (s .low) (t .low) (one .low) (two .low); high = or-lt 64 (s .high) (t .high) (one .high) (two .high) }
-
-pub single-sized : (role : ℕ) → Sized (singleOf role)
-unfolding singleOf
-single-sized role = go (decLt role 64) (decLt role 128)
-  where
-    go : Dec (role < 64) → Dec (role < 128) → Sized (singleOf role)
-    go (yes h) d = rw (lt-ltb role 64 h) (record { low = pow-lt h; high = pow-pos 64 })
-    go (no g) (yes h) =
-        let fits : role - 64 < 64 = omega arith in
-        rw (le-ltb role 64 (omega arith), lt-ltb role 128 h) (record { low = pow-pos 64; high = pow-lt fits })
-    go (no g) (no h) = rw (le-ltb role 64 (omega arith), le-ltb role 128 (omega arith)) empty-sized
 
 add-sized : {s more : RoleSet} (test : Bool) → Sized more → Sized s → Sized (addIf test more s)
 unfolding addIf

@@ -16,7 +16,7 @@ use Rattle.text.specs.Forms.{every, isName, namesOf}
 use Rattle.text.specs.Pieces.{sameBytes, among, repeated, same-equal, equal-same}
 use Rattle.fields.specs.Fields.{placed, isDeclared, allDeclared, rolesFrom, rolesOf}
 use Rattle.steps.specs.Places.{At, here, there, at-inside, at-listed, listed-at}
-use Rattle.rereading.specs.Roles.{role-kept}
+use Rattle.fields.specs.Roles.{role-kept}
 
 -- Byte strings that are names, none of them twice.
 pub record Names (names : List (List ℕ)) : Type 0 where

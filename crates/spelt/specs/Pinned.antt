@@ -17,7 +17,7 @@ use Rattle.text.specs.Pieces.{split, onto, among, repeated}
 use Rattle.walking.specs.Texts.{read}
 use Rattle.reading.specs.Policy.{Said, readPolicy}
 use Rattle.tables.specs.Padded.{padded}
-use Rattle.reading.specs.Kept.{read-bounded}
+use Rattle.reading.specs.Sound.{read-sound}
 use Rattle.typings.specs.TypingText.{Typed, readTyping, tableOf}
 use Rattle.steps.specs.Places.{At, at-stands, at-listed, listed-at}
 use Rattle.judging.specs.Verdict.{pinnedNames}
@@ -148,4 +148,4 @@ pinned-counts policy {s} reads text {t} is =
     let table = roles-packed policy reads in
     let many = ap length (table .packing) ∙ length-map (table .names) packed in
     ap (pinnedNames (tableOf t)) many
-    ∙ pinned-names (table .are) (omega (arith, read-bounded policy s reads .roles, many)) text (subst (λ (names : List Name). readTyping names text ≡ read t) (table .packing) is)
+    ∙ pinned-names (table .are) (omega (arith, read-sound policy reads .roles .most, many)) text (subst (λ (names : List Name). readTyping names text ≡ read t) (table .packing) is)

@@ -13,7 +13,8 @@ use Rattle.writing.specs.Written.{spelled}
 use Rattle.writing.specs.Spelling.{spelled-packed}
 use Rattle.walking.specs.Texts.{read}
 use Rattle.reading.specs.Policy.{Said, readPolicy}
-use Rattle.rereading.specs.Named.{Spelt, Named, names-read, users-read}
+use Rattle.tables.specs.Named.{Spelt, Named}
+use Rattle.reading.specs.Sound.{read-sound}
 use Rattle.rereading.specs.Standing.{Standing, none, more, standing, spelled-form, spelled-placed}
 use Rattle.spelt.specs.Names.{Names}
 
@@ -63,11 +64,11 @@ module _ {table : List Name} where
 
 -- The role names of a policy that is read,
 pub roles-packed : (policy : List ℕ) {s : Said} → readPolicy policy ≡ read s → Packed (s .roles)
-roles-packed policy is = named-packed (names-read policy is)
+roles-packed policy is = named-packed (read-sound policy is .roles .named)
 
 -- and its user names.
 pub users-packed : (policy : List ℕ) {s : Said} → readPolicy policy ≡ read s → Packed (s .users)
-users-packed policy is = named-packed (users-read policy is)
+users-packed policy is = named-packed (read-sound policy is .users .named)
 
 -- ---- packing tells the names
 

@@ -13,7 +13,7 @@ use Rattle.text.specs.Forms.{bytes, every, isName, isSet, namesOf}
 use Rattle.text.specs.Pieces.{split, sameBytes, repeated, same-equal, split-piece}
 use Rattle.fields.specs.Fields.{allDeclared, rolesOf}
 use Rattle.spelling.specs.TypingText.{joinedAfter, joined}
-use Rattle.verdicts.specs.Sizes.{roles-sized}
+use Rattle.fields.specs.Roles.{roles-sized}
 use Rattle.rereading.specs.Joined.{names-back}
 use Rattle.spelt.specs.Names.{Names, RoleOf, listed-passes, every-exact, all-declared-exact, roles-exact}
 use Rattle.spelt.specs.Lines.{parted, fields-parted}

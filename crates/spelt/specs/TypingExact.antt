@@ -12,7 +12,7 @@ use Rattle.tables.specs.Names.{packed}
 use Rattle.text.specs.Forms.{bytes, every, isName}
 use Rattle.walking.specs.Texts.{goes, read}
 use Rattle.reading.specs.Policy.{Said, readPolicy}
-use Rattle.reading.specs.Kept.{read-bounded}
+use Rattle.reading.specs.Sound.{read-sound}
 use Rattle.steps.specs.Places.{At, here, there, at-inside}
 use Rattle.typings.specs.TypingText.{Typed, untyped, judgeLine, readTyping}
 use Rattle.rereading.specs.Cuts.{free}
@@ -173,5 +173,5 @@ module _ {names : List (List ℕ)} (all : Names names) (few : length names ≤ 1
 pub policy-typing-spelt : (policy : List ℕ) {s : Said} (reads : readPolicy policy ≡ read s) (text : List ℕ) (t : Typed) → readTyping (s .roles) text ≡ read t ↔ TypingSpelt (roles-packed policy reads .names) text t
 policy-typing-spelt policy {s} reads text t =
     let table = roles-packed policy reads in
-    let few : length (table .names) ≤ 128 = omega (arith, read-bounded policy s reads .roles, ap length (table .packing), length-map (table .names) packed) in
+    let few : length (table .names) ≤ 128 = omega (arith, read-sound policy reads .roles .most, ap length (table .packing), length-map (table .names) packed) in
     subst⁻¹ (λ (names : List Name). readTyping names text ≡ read t ↔ TypingSpelt (table .names) text t) (table .packing) (typing-spelt (table .are) few text t)

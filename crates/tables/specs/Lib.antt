@@ -2,3 +2,4 @@
 pub mod Names
 pub mod Padded
 pub mod Storing
+pub mod Named

@@ -1,4 +1,5 @@
--- How bytes fall into pieces, the form of each piece, and eight bytes at a time.
+-- How bytes fall into pieces, the form of each piece, eight bytes at a time, and a law of lists.
+pub mod Lists
 pub mod Pieces
 pub mod Begins
 pub mod Repeats

@@ -1,66 +1,21 @@
 -- The sets of a policy that is read are words of 64 bits.
 use Prim.Native.Nat.{ℕ}
-use mathlib.Core.Bool.{Bool, true, false}
-use mathlib.Core.List.{List, List·Memᴰ·not-nil as not-nil}
-use mathlib.Core.Path.{_≡_, subst}
-use native.Mathlib.Omega.{arith}
-use Rattle.roles.specs.Members.{Sized}
-use Rattle.rules.specs.Exact.{SizedRule}
-use Rattle.tables.specs.declared.Name.{Name}
-use Rattle.text.specs.Pieces.{split}
-use Rattle.lines.specs.declared.Counts.{Counts}
-use Rattle.lines.specs.declared.Entry.{Entry}
-use Rattle.lines.specs.declared.PolicyLine.{PolicyLine}
+use mathlib.Core.List.{List}
+use mathlib.Core.Path.{_≡_}
 use Rattle.walking.specs.Texts.{read}
-use Rattle.lines.specs.Lines.{Line, header, role, user, has, assign, revoke, goal, end, other, lineOf, wellFormed, withinLimit, declared, entry, inTurn, judged, policyLine}
-use Rattle.reading.specs.Policy.{Said, nothing, countsOf, added, judgeLine, readPolicy}
-use Rattle.walking.specs.Kept.{text-keeps}
-use Rattle.reading.specs.Kept.{line-keeps}
+use Rattle.reading.specs.Policy.{Said, readPolicy}
+use Rattle.reading.specs.Sound.{read-sound}
 use Rattle.steps.specs.Exact.{SizedRules}
 use Rattle.steps.specs.Bad.{SizedGoals}
 use Rattle.judging.specs.Exact.{SizedPolicy}
-use Rattle.verdicts.specs.Sizes.{roles-sized, each-more}
 
--- a good line says what its fields say
-turn-entry : (formed limited known : Bool) (e e′ : Entry) → inTurn formed limited known e ≡ PolicyLine.Good e′ → e ≡ e′
-unfolding inTurn
-turn-entry true true true e e′ good = cc
-turn-entry true true false e e′ good = absurd (let z : _≡_ {A = ℕ} 0 1 = cc in omega arith)
-turn-entry true false known e e′ good = absurd (let z : _≡_ {A = ℕ} 0 1 = cc in omega arith)
-turn-entry false limited known e e′ good = absurd (let z : _≡_ {A = ℕ} 0 1 = cc in omega arith)
-
-line-entry : (c : Counts) (roles users : List Name) (line : List ℕ) {e : Entry} → policyLine c roles users line ≡ PolicyLine.Good e → entry roles users (lineOf (split 9 line)) ≡ e
-unfolding policyLine judged
-line-entry c roles users line {e} good =
-    turn-entry (wellFormed c roles users (lineOf (split 9 line))) (withinLimit c (lineOf (split 9 line))) (declared roles users (lineOf (split 9 line))) (entry roles users (lineOf (split 9 line))) e good
-
--- what a line says keeps the sets sized
-entry-sized : (s : Said) (roles users : List Name) (line : Line) → SizedPolicy s → SizedPolicy (added s (entry roles users line))
-unfolding added entry
-entry-sized s roles users (header edition) sized = record { assigns = sized .assigns; goals = sized .goals }
-entry-sized s roles users (role name) sized = record { assigns = sized .assigns; goals = sized .goals }
-entry-sized s roles users (user name clearance) sized = record { assigns = sized .assigns; goals = sized .goals }
-entry-sized s roles users (has holder held) sized = record { assigns = sized .assigns; goals = sized .goals }
-entry-sized s roles users (assign admin positive negative target) sized = record {
-  assigns = λ {rule} m. each-more SizedRule (s .assigns) (λ r old. sized .assigns old) (record { positive = roles-sized roles positive; negative = roles-sized roles negative }) rule m;
-  goals = sized .goals;
-}
-entry-sized s roles users (revoke admin target) sized = record { assigns = sized .assigns; goals = sized .goals }
-entry-sized s roles users (goal set) sized = record { assigns = sized .assigns; goals = λ {goal = g} m. each-more Sized (s .goals) (λ r old. sized .goals old) (roles-sized roles set) g m }
-entry-sized s roles users end sized = sized
-entry-sized s roles users other sized = sized
-
-nothing-sized : SizedPolicy nothing
-unfolding nothing
-nothing-sized = record { assigns = λ m. absurd (not-nil m); goals = λ m. absurd (not-nil m) }
-
--- The sets of a policy that is read are sized.
 pub read-sized : (text : List ℕ) {s : Said} → readPolicy text ≡ read s → SizedPolicy s
-unfolding readPolicy
-read-sized text {s} is =
-    text-keeps judgeLine 11 SizedPolicy
-    (line-keeps SizedPolicy (λ u line e told sized. subst (λ (x : Entry). SizedPolicy (added u x)) (line-entry (countsOf u) (u .roles) (u .users) line told) (entry-sized u (u .roles) (u .users) (lineOf (split 9 line)) sized)))
-    10 nothing s text is nothing-sized
+read-sized text is =
+    let sound = read-sound text is in
+    record {
+      assigns = λ {rule} m. let over = sound .assigns .each rule m in record { positive = over .positive .sized; negative = over .negative .sized };
+      goals = λ {goal} m. sound .goals .each goal m .sized;
+    }
 
 -- The same of the rules and goals that a trace is run and judged by.
 pub read-rules-sized : (text : List ℕ) {s : Said} → readPolicy text ≡ read s → SizedRules (s .assigns)

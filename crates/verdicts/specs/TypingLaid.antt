@@ -28,7 +28,8 @@ use Rattle.fields.specs.Turns.{turnOf}
 use Rattle.typings.specs.TypingLines.{Line, header, row, end, other, lineOf, wellFormed, named, entry, answerTo, judged, typingLine}
 use Rattle.typings.specs.TypingText.{Typed, untyped, added, answered, judgeLine, readTyping, tableOf}
 use Rattle.typings.specs.TypingReached.{Rowed}
-use Rattle.verdicts.specs.Sizes.{roles-sized, each-more}
+use Rattle.fields.specs.Roles.{roles-sized}
+use Rattle.text.specs.Lists.{each-more}
 
 -- As many labels and sets as rows, no more rows than roles, and the sets are words of 64 bits.
 pub record Rows (roles : ℕ) (t : Typed) : Type 0 where

@@ -9,7 +9,7 @@ use Rattle.model.specs.Meaning.{meaning}
 use Rattle.rules.specs.Exact.{Laid}
 use Rattle.walking.specs.Texts.{read}
 use Rattle.reading.specs.Policy.{Said, policyOf, readPolicy}
-use Rattle.reading.specs.Kept.{read-bounded}
+use Rattle.reading.specs.Sound.{read-sound}
 use Rattle.typings.specs.TypingText.{Typed, readTyping, tableOf}
 use Rattle.judging.specs.declared.TypingVerdict.{TypingVerdict}
 use Rattle.judging.specs.Verdict.{typingVerdict}
@@ -19,7 +19,7 @@ use Rattle.verdicts.specs.TypingLaid.{read-laid}
 
 -- A typing text that is read over the roles of a policy text that is read is laid out over them.
 pub texts-laid : (policy typing : List ℕ) {s : Said} {t : Typed} → readPolicy policy ≡ read s → readTyping (s .roles) typing ≡ read t → Laid (tableOf t) (length (s .roles))
-texts-laid policy typing {s} is over = read-laid (s .roles) typing over (read-bounded policy s is .roles)
+texts-laid policy typing {s} is over = read-laid (s .roles) typing over (read-sound policy is .roles .most)
 
 -- The verdict is accepted exactly when the typing is accepted.
 pub safe-exact : (policy typing : List ℕ) {s : Said} {t : Typed} → readPolicy policy ≡ read s → readTyping (s .roles) typing ≡ read t

@@ -9,12 +9,13 @@ use Rattle.tables.specs.Names.{value, packed, sameName, placeOf}
 use Rattle.text.specs.Pieces.{onto, split, sameBytes, among, repeated}
 use Rattle.walking.specs.Texts.{Reading, read, refused, closing, onward, readLines, readText}
 use Rattle.fields.specs.Fields.{placed, isDeclared, allDeclared, rolesFrom, rolesOf}
-use Rattle.lines.specs.Lines.{oneField, twoFields, threeFields, fiveFields, lineOf, inOrder, wellFormed, withinLimit, declared, entry, inTurn, judged, policyLine}
-use Rattle.reading.specs.Policy.{Said, nothing, countsOf, added, entered, answered, judgeLine, readPolicy}
+use Rattle.walking.specs.Turns.{inTurn}
+use Rattle.lines.specs.Lines.{oneField, twoFields, threeFields, fiveFields, lineOf, inOrder, asked, tests}
+use Rattle.reading.specs.Policy.{Said, nothing, countsOf, kindOf, noted, added, isNew, leads, lineAsked, lineTests, judgeLine, readPolicy}
 
 -- opens every definition of this layer
 unfoldable pub reading : Unit {0}
-unfolding bit emptySet hasRole singleOf unionOf withOf nobody person holding granted every between nameByte isName namesOf isSet isLabel value packed sameName placeOf onto split sameBytes among repeated closing onward readLines readText placed isDeclared allDeclared rolesFrom rolesOf oneField twoFields threeFields fiveFields lineOf inOrder wellFormed withinLimit declared entry inTurn judged policyLine nothing countsOf added entered answered judgeLine readPolicy
+unfolding bit emptySet hasRole singleOf unionOf withOf nobody person holding granted every between nameByte isName namesOf isSet isLabel value packed sameName placeOf onto split sameBytes among repeated closing onward readLines readText placed isDeclared allDeclared rolesFrom rolesOf oneField twoFields threeFields fiveFields lineOf inOrder inTurn asked tests nothing countsOf kindOf noted added isNew leads lineAsked lineTests judgeLine readPolicy
 reading = tt
 
 -- the desk's roles, users and holding, six lines below the header

@@ -1,6 +1,6 @@
 -- `assign_line` is judged by the order and by the fault of its four fields together.
 use borrow.Author.Needs.{needs}
-use Rattle.lines.specs.Lines.{assign-judged}
+use Rattle.lines.specs.LineLaws.{assign-judged}
 use Rattle.lines.proofs.assign_line.Statement.{statement}
 use Rattle.lines.proofs.assign_line.Tie as tie
 

@@ -1,6 +1,6 @@
 -- `goal_line` is judged by the order, by `-` and by the fault of its set.
 use borrow.Author.Needs.{needs}
-use Rattle.lines.specs.Lines.{goal-judged}
+use Rattle.lines.specs.LineLaws.{goal-judged}
 use Rattle.lines.proofs.goal_line.Statement.{statement}
 use Rattle.lines.proofs.goal_line.Tie as tie
 

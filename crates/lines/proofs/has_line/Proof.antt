@@ -2,7 +2,7 @@
 use borrow.Author.Needs.{needs}
 use Rattle.fields.specs.Fields.{worse}
 use Rattle.fields.specs.Fields.{worse}
-use Rattle.lines.specs.Lines.{has-judged}
+use Rattle.lines.specs.LineLaws.{has-judged}
 use Rattle.lines.proofs.has_line.Statement.{statement}
 use Rattle.lines.proofs.has_line.Tie as tie
 

@@ -1,6 +1,6 @@
 -- `header_line` is judged by the stage and the edition.
 use borrow.Author.Needs.{needs}
-use Rattle.lines.specs.Lines.{wellFormed, withinLimit, declared, entry, judged}
+use Rattle.lines.specs.Lines.{asked, judged}
 use Rattle.lines.proofs.header_line.Statement.{statement}
 use Rattle.lines.proofs.header_line.Tie as tie
 
@@ -14,7 +14,7 @@ in-turn-requires : tie.Need-in-turn-requires
 in-turn-requires c κs = search needs
 
 returns : tie.Need-returns
-unfolding judged wellFormed withinLimit declared entry
+unfolding judged asked
 returns c = λ roles users. cc
 
 pub header-line-spec : {M : Type 1} → statement M

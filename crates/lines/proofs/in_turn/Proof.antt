@@ -1,24 +1,25 @@
 -- `in_turn` goes by the three flags, one after the other.
 use borrow.Author.Tests.{not-true, not-false}
 use borrow.Author.Tests.{not-true, not-false}
-use Rattle.lines.specs.Lines.{inTurn}
+use Rattle.lines.specs.Lines.{comesTo, tests}
+use Rattle.walking.specs.Turns.{inTurn}
 use Rattle.lines.proofs.in_turn.Statement.{statement}
 use Rattle.lines.proofs.in_turn.Tie as tie
 
 returns : tie.Need-returns
-unfolding inTurn
+unfolding comesTo tests inTurn
 returns c = rw (not-true (c .before .args .formed) (c .if1 .taken))
 
 returns-2 : tie.Need-returns-2
-unfolding inTurn
+unfolding comesTo tests inTurn
 returns-2 c = rw (not-false (c .before .before .args .formed) (c .before .if1 .left), not-true (c .before .before .args .limited) (c .if2 .taken))
 
 returns-3 : tie.Need-returns-3
-unfolding inTurn
+unfolding comesTo tests inTurn
 returns-3 c = rw (not-false (c .before .before .before .args .formed) (c .before .before .if1 .left), not-false (c .before .before .before .args .limited) (c .before .if2 .left), not-true (c .before .before .before .args .declared) (c .if3 .taken))
 
 returns-4 : tie.Need-returns-4
-unfolding inTurn
+unfolding comesTo tests inTurn
 returns-4 c = rw (not-false (c .before .before .before .args .formed) (c .before .before .if1 .left), not-false (c .before .before .before .args .limited) (c .before .if2 .left), not-false (c .before .before .before .args .declared) (c .if3 .left))
 
 pub in-turn-spec : {M : Type 1} → statement M

@@ -1,6 +1,6 @@
 -- `one_field` is judged by its word and by the stage.
 use borrow.Author.Needs.{needs}
-use Rattle.lines.specs.Lines.{one-judged}
+use Rattle.lines.specs.LineLaws.{one-judged}
 use Rattle.lines.proofs.one_field.Statement.{statement}
 use Rattle.lines.proofs.one_field.Tie as tie
 

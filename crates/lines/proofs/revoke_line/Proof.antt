@@ -2,7 +2,7 @@
 use borrow.Author.Needs.{needs}
 use Rattle.fields.specs.Fields.{worse}
 use Rattle.fields.specs.Fields.{worse}
-use Rattle.lines.specs.Lines.{revoke-judged}
+use Rattle.lines.specs.LineLaws.{revoke-judged}
 use Rattle.lines.proofs.revoke_line.Statement.{statement}
 use Rattle.lines.proofs.revoke_line.Tie as tie
 

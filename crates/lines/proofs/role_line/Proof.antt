@@ -1,7 +1,7 @@
 -- `role_line` is judged by the order, the name and its place in the table.
 use borrow.Author.Needs.{needs}
 use Rattle.fields.specs.Fields.{placed, new-test}
-use Rattle.lines.specs.Lines.{wellFormed, withinLimit, declared, entry, judged}
+use Rattle.lines.specs.Lines.{asked, judged}
 use Rattle.lines.proofs.role_line.Statement.{statement}
 use Rattle.lines.proofs.role_line.Tie as tie
 
@@ -21,7 +21,7 @@ in-turn-requires : tie.Need-in-turn-requires
 in-turn-requires c κs = search needs
 
 returns : tie.Need-returns
-unfolding judged wellFormed withinLimit declared entry placed
+unfolding judged asked placed
 returns c = λ users. cc (new-test (c .before .before .before .before .before .before .before .args .c .roles) (c .before .before .before .before .before .before .before .args .roles .now) (c .before .before .before .before .before .before .before .args .name .now))
 
 pub role-line-spec : {M : Type 1} → statement M

@@ -1,7 +1,8 @@
 -- `three_fields` goes by its word.
 use borrow.Author.Needs.{needs}
 use mathlib.Core.Path.{sym, ap, _∙_}
-use Rattle.lines.specs.Lines.{judged, three-has, three-revoke, three-user, three-other, other-judged}
+use Rattle.lines.specs.Lines.{judged}
+use Rattle.lines.specs.LineLaws.{three-has, three-revoke, three-user, three-other, other-judged}
 use Rattle.lines.proofs.three_fields.Statement.{statement}
 use Rattle.lines.proofs.three_fields.Tie as tie
 

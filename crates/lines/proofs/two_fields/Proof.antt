@@ -1,7 +1,8 @@
 -- `two_fields` goes by its word.
 use borrow.Author.Needs.{needs}
 use mathlib.Core.Path.{sym, ap, _∙_}
-use Rattle.lines.specs.Lines.{judged, two-role, two-goal, two-header, two-other, other-judged}
+use Rattle.lines.specs.Lines.{judged}
+use Rattle.lines.specs.LineLaws.{two-role, two-goal, two-header, two-other, other-judged}
 use Rattle.lines.proofs.two_fields.Statement.{statement}
 use Rattle.lines.proofs.two_fields.Tie as tie
 

@@ -1,7 +1,7 @@
 -- `code` goes by the answer.
 use borrow.Author.Needs.{needs}
 use mathlib.Core.Path.{sym, ap}
-use Rattle.reading.specs.Policy.{codeOf}
+use Rattle.lines.specs.Lines.{codeOf}
 use Rattle.reading.proofs.directory.code.Statement.{statement}
 use Rattle.reading.proofs.directory.code.Tie as tie
 

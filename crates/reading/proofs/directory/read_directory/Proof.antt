@@ -10,15 +10,16 @@ use native.Mathlib.Omega.{arith}
 use types.Run.{OneOf}
 use Rattle.lines.specs.declared.Entry.{Entry}
 use Rattle.lines.specs.declared.PolicyLine.{PolicyLine}
-use Rattle.lines.specs.Lines.{Fitting}
+use Rattle.lines.specs.LineLaws.{Fitting}
 use Rattle.lines.proofs.Entry.{the-type}
 use Rattle.text.specs.Pieces.{part-short}
-use Rattle.reading.specs.Policy.{codeOf}
+use Rattle.lines.specs.Lines.{codeOf}
 use Rattle.reading.specs.Order.{OfDirectory}
 use Rattle.reading.specs.Between.{fits-here}
 use Rattle.reading.specs.Directory.{refusedDirectory, directoryOf, directoryRead}
 use Rattle.reading.specs.Leading.{led-long}
 use Rattle.reading.specs.DirectoryReached.{Reached, reached-start, reached-end, reached-tail, tables, user-limit, line-refused, line-below, header-added, role-added, user-added, has-added, has-refused}
+use Rattle.reading.specs.Policy.{kindOf}
 use Rattle.reading.proofs.directory.read_directory.Statement.{statement}
 use Rattle.reading.proofs.directory.read_directory.Tie as tie
 
@@ -30,14 +31,15 @@ late-key (inr (inr (inl is))) = omega (arith, is)
 late-key (inr (inr (inr is))) = omega (arith, is)
 
 of-rules : (e : Entry) → OneOf (4 ∷ 5 ∷ 6 ∷ 7 ∷ []) (tagOf the-type e) → OfDirectory e → ⊥
+unfolding kindOf
 of-rules Entry.Header tag of = omega (arith, late-key tag)
 of-rules (Entry.Role name) tag of = omega (arith, late-key tag)
 of-rules (Entry.User name clearance) tag of = omega (arith, late-key tag)
 of-rules (Entry.Has holder held) tag of = omega (arith, late-key tag)
-of-rules (Entry.Assign rule) tag of = of
-of-rules (Entry.Revoke rule) tag of = of
-of-rules (Entry.Goal set) tag of = of
-of-rules Entry.End tag of = of
+of-rules (Entry.Assign rule) tag of = omega arith
+of-rules (Entry.Revoke rule) tag of = omega arith
+of-rules (Entry.Goal set) tag of = omega arith
+of-rules Entry.End tag of = omega arith
 
 abbrev Inv-loop : tie.InvT-loop
 Inv-loop text end d₀ c₀ at₀ number₀ d c at number = Reached text at number d c

@@ -10,14 +10,15 @@ use native.Mathlib.Omega.{arith}
 use types.Run.{OneOf}
 use Rattle.lines.specs.declared.Entry.{Entry}
 use Rattle.lines.specs.declared.PolicyLine.{PolicyLine}
-use Rattle.lines.specs.Lines.{Fitting}
+use Rattle.lines.specs.LineLaws.{Fitting}
 use Rattle.lines.proofs.Entry.{the-type}
 use Rattle.text.specs.Pieces.{part-short}
-use Rattle.reading.specs.Policy.{codeOf}
+use Rattle.lines.specs.Lines.{codeOf}
 use Rattle.reading.specs.Order.{OfDirectory}
 use Rattle.reading.specs.Between.{fits-here}
 use Rattle.reading.specs.Rules.{refusedRules}
 use Rattle.reading.specs.RulesReached.{Reached, reached-start, reached-end, reached-tail, line-refused, line-last, line-more, laid-counts, assign-added, revoke-added, goal-added, none-of-directory}
+use Rattle.reading.specs.Policy.{kindOf}
 use Rattle.reading.proofs.policy.read_rules.Statement.{statement}
 use Rattle.reading.proofs.policy.read_rules.Tie as tie
 
@@ -29,10 +30,11 @@ early-key (inr (inr (inl is))) = omega (arith, is)
 early-key (inr (inr (inr is))) = omega (arith, is)
 
 of-directory : (e : Entry) → OneOf (0 ∷ 1 ∷ 2 ∷ 3 ∷ []) (tagOf the-type e) → OfDirectory e
-of-directory Entry.Header tag = tt
-of-directory (Entry.Role name) tag = tt
-of-directory (Entry.User name clearance) tag = tt
-of-directory (Entry.Has holder held) tag = tt
+unfolding kindOf
+of-directory Entry.Header tag = omega arith
+of-directory (Entry.Role name) tag = omega arith
+of-directory (Entry.User name clearance) tag = omega arith
+of-directory (Entry.Has holder held) tag = omega arith
 of-directory (Entry.Assign rule) tag = absurd (omega (arith, early-key tag))
 of-directory (Entry.Revoke rule) tag = absurd (omega (arith, early-key tag))
 of-directory (Entry.Goal set) tag = absurd (omega (arith, early-key tag))

@@ -1,15 +1,18 @@
--- The roles of a set field: those at the places of its names, and no other.
-use Prim.Native.Nat.{ℕ}
+-- The roles of a set field: those at the places of its names, and no other; so all of them are below the number of names.
+use Prim.Native.Nat.{ℕ, _<_}
 use mathlib.Core.Bool.{Bool, true, and-eq-true-iff}
 use mathlib.Core.List.{List, [], _∷_}
 use mathlib.Core.Logic.{_⊎_, inl, inr}
 use mathlib.Core.Path.{_≡_, ap, _∙_}
+use borrow.Author.Tests.{ltb-true}
+use lib.Dec.{ltb}
+use lib.ListN.{length}
 use Rattle.roles.specs.declared.RoleSet.{RoleSet}
 use Rattle.roles.specs.Sets.{emptySet, withOf}
-use Rattle.roles.specs.Members.{_∈_, with-cases, with-old, empty-none}
+use Rattle.roles.specs.Members.{_∈_, Sized, with-cases, with-old, empty-none, empty-sized, with-sized}
 use Rattle.tables.specs.declared.Name.{Name}
-use Rattle.text.specs.Forms.{every}
-use Rattle.fields.specs.Fields.{placed, rolesFrom}
+use Rattle.text.specs.Forms.{every, namesOf}
+use Rattle.fields.specs.Fields.{placed, isDeclared, allDeclared, rolesFrom, rolesOf}
 
 module _ (names : List Name) where
   -- A role that is in the set stays in it.
@@ -41,3 +44,29 @@ module _ (names : List Name) where
       go : {role : ℕ} → (role ∈ emptySet) ⊎ (test role ≡ true) → test role ≡ true
       go (inl none) = absurd (empty-none none)
       go (inr passes) = passes
+
+-- ---- words of 64 bits, and roles below a number
+
+-- a set with the roles of names
+from-sized : (names : List Name) (s : RoleSet) (fields : List (List ℕ)) → Sized s → Sized (rolesFrom names s fields)
+unfolding rolesFrom
+from-sized names s [] sized = sized
+from-sized names s (name ∷ rest) sized = from-sized names (withOf s (placed names name)) rest (with-sized (placed names name) sized)
+
+-- The roles of a set field.
+pub roles-sized : (names : List Name) (field : List ℕ) → Sized (rolesOf names field)
+unfolding rolesOf
+roles-sized names field = from-sized names emptySet (namesOf field) empty-sized
+
+-- The words of a set are of 64 bits, and all its roles are below a number.
+pub record Inside (roles : ℕ) (s : RoleSet) : Type 0 where
+  pub sized : Sized s
+  pub below : {role : ℕ} → role ∈ s → role < roles
+
+-- the roles of a set field whose names are declared
+pub roles-inside : (names : List Name) (field : List ℕ) → allDeclared names field ≡ true → Inside (length names) (rolesOf names field)
+unfolding rolesOf allDeclared isDeclared
+roles-inside names field known = record {
+  sized = roles-sized names field;
+  below = λ {role} found. ltb-true role (length names) (role-passes names (λ place. ltb place (length names)) (namesOf field) known found);
+}
