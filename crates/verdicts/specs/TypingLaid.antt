@@ -17,7 +17,7 @@ use Rattle.rules.specs.Exact.{Laid}
 use Rattle.tables.specs.declared.Name.{Name}
 use Rattle.text.specs.Forms.{bytes, isName, isSet, isLabel}
 use Rattle.text.specs.Pieces.{split, sameBytes}
-use Rattle.walking.specs.Texts.{goes, ends, bad, read}
+use Rattle.walking.specs.Texts.{goes, read, goes-one, goes-ends, goes-bad}
 use Rattle.fields.specs.Fields.{rolesOf}
 use Rattle.tables.specs.Padded.{padded}
 use Rattle.walking.specs.Kept.{text-keeps}
@@ -51,15 +51,6 @@ line-good : (stage : ℕ) (names : List Name) (line : List ℕ) {e : TypingEntry
 unfolding typingLine judged
 line-good stage names line {e} good =
     answer-good (wellFormed stage (length names) (lineOf (split 9 line))) (named stage names (lineOf (split 9 line))) (entry names (lineOf (split 9 line))) e good
-
-goes-one : {s t : Typed} → goes s ≡ goes t → s ≡ t
-goes-one e = cc
-
-goes-ends : {t : Typed} → ends ≡ goes t → ⊥
-goes-ends e = let z : _≡_ {A = ℕ} 0 1 = cc in omega arith
-
-goes-bad : {number : ℕ} {t : Typed} → bad number ≡ goes t → ⊥
-goes-bad e = let z : _≡_ {A = ℕ} 0 1 = cc in omega arith
 
 -- a row stands after the header and before the end of the roles
 row-stage : (stage : ℕ) (names : List Name) (name label plus minus : List ℕ) → wellFormed stage (length names) (row name label plus minus) ≡ true → (1 ≤ stage) × (stage ≤ length names)

@@ -15,6 +15,16 @@ pub data Judged (S : Type 0) : Type 0 where
   ends : Judged S
   bad : ℕ → Judged S
 
+-- A line that adds adds one thing, and is neither `end` nor refused.
+pub goes-one : {S : Type 0} {s t : S} → goes s ≡ goes t → s ≡ t
+goes-one e = cc
+
+pub goes-ends : {S : Type 0} {t : S} → ends ≡ goes t → ⊥
+goes-ends e = let z : _≡_ {A = ℕ} 0 1 = cc in omega arith
+
+pub goes-bad : {S : Type 0} {number : ℕ} {t : S} → bad number ≡ goes t → ⊥
+goes-bad e = let z : _≡_ {A = ℕ} 0 1 = cc in omega arith
+
 -- What a text gives: what was read, or a refusal's number and line.
 pub data Reading (S : Type 0) : Type 0 where
   read : S → Reading S
