@@ -11,8 +11,8 @@ use Rattle.bytes.specs.Bytes.{indexOf, indexAfter}
 use Rattle.tables.specs.declared.Name.{Name}
 use Rattle.text.specs.Forms.{bytes}
 use Rattle.text.specs.Pieces.{split, sameBytes, same-equal}
-use Rattle.fields.specs.Turns.{turnOf}
 use Rattle.walking.specs.Texts.{Judged, bad, read}
+use Rattle.walking.specs.Turns.{inTurn}
 use Rattle.walking.specs.Meaning.{LF, Unbroken, none, more, Above, first, next, ReadAs, read-exact}
 use Rattle.walking.specs.FirstLine.{first-piece}
 use Rattle.reading.specs.PolicyExact.{whole-piece}
@@ -87,7 +87,7 @@ typing-fields roles (word ∷ a ∷ b ∷ c ∷ d ∷ others) formed = absurd (t
 
 -- the first line of a typing is its header
 typing-header : (names : List Name) (line : List ℕ) → ((k : ℕ) → typings.judgeLine names untyped line ≡ bad k → ⊥) → line ≡ bytes "typing\t1"
-unfolding typings.judgeLine typings.answered untyped typing.typingLine typing.judged typing.answerTo turnOf
+unfolding typings.judgeLine typings.answered untyped typing.typingLine typing.judged inTurn
 typing-header names line good = go (typing.wellFormed 0 (length names) (typing.lineOf (split 9 line))) refl
   where
     go : (b : Bool) → typing.wellFormed 0 (length names) (typing.lineOf (split 9 line)) ≡ b → line ≡ bytes "typing\t1"

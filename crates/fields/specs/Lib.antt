@@ -1,6 +1,5 @@
--- Names and sets against a table, how a line falls into fields, and the number of a line of evidence by its faults.
+-- Names and sets against a table, and how a line falls into fields.
 pub mod Fields
 pub mod Sets
 pub mod Roles
-pub mod Turns
 pub mod Cutting

@@ -7,9 +7,6 @@ ghost use Rattle.text.specs.Forms.{bytes, every, isName};
 ghost use Rattle.tables.specs.Names.{rows};
 ghost use Rattle.text.specs.Pieces.{split, sameBytes};
 ghost use Rattle.fields.specs.Fields.{nameRead, setRead, areSet, malformedSet, undeclaredSet};
-
-pub mod turns;
-
 use roles::RoleSet;
 
 // A name field: the fault, 2 malformed, 1 undeclared, 0 none, and the name's place.

@@ -1,8 +1,8 @@
 -- A typing that is read has a row for each role, and its sets have only declared roles.
 use Prim.Native.Nat.{ℕ, suc, _+_}
-use mathlib.Core.Bool.{Bool, true, false, _&&_, and-eq-true-iff, false≢true}
+use mathlib.Core.Bool.{true, _&&_, and-eq-true-iff, false≢true}
 use mathlib.Core.List.{List, List·Memᴰ as Listed, List·Memᴰ·not-nil as not-nil}
-use mathlib.Core.Path.{_≡_, refl, subst, _∙_}
+use mathlib.Core.Path.{_≡_, subst, _∙_}
 use borrow.Author.Tests.{eqb-true}
 use lib.Dec.{eqb}
 use lib.ListN.{length}
@@ -14,11 +14,11 @@ use Rattle.text.specs.Pieces.{split}
 use Rattle.walking.specs.Texts.{Judged, goes, ends, bad, read}
 use Rattle.fields.specs.Fields.{placed, allDeclared}
 use Rattle.fields.specs.Roles.{Inside, roles-inside}
+use Rattle.walking.specs.Turns.{turn-cases}
 use Rattle.walking.specs.Kept.{text-keeps}
 use Rattle.walking.specs.Meaning.{read-exact}
-use Rattle.typings.specs.declared.TypingEntry.{TypingEntry}
-use Rattle.fields.specs.Turns.{turnOf}
-use Rattle.typings.specs.TypingLines.{Line, header, row, end, other, lineOf, wellFormed, named, entry, answerTo, judged, typingLine}
+use Rattle.typings.specs.declared.TypingLine.{TypingLine}
+use Rattle.typings.specs.TypingLines.{Line, header, row, end, other, lineOf, wellFormed, named, entry, judged, typingLine}
 use Rattle.typings.specs.TypingText.{Typed, untyped, added, answered, judgeLine, readTyping}
 use Rattle.text.specs.Lists.{each-more}
 use Rattle.verdicts.specs.TypingLaid.{read-rows}
@@ -44,13 +44,6 @@ abbrev Means : ℕ → Typed → Judged Typed → Type 0
 Means roles s (goes t) = Sets roles t
 Means roles s ends = s .stage ≡ suc roles
 Means roles s (bad number) = Unit {0}
-
--- only a line that is well formed, with known names, counts
-answered-means : (roles : ℕ) (s : Typed) (formed known : Bool) (e : TypingEntry) → (formed ≡ true → known ≡ true → Means roles s (added s e)) → Means roles s (answered s (answerTo (turnOf formed known) e))
-unfolding answered answerTo turnOf
-answered-means roles s true true e good = good refl refl
-answered-means roles s true false e good = tt
-answered-means roles s false known e good = tt
 
 -- what the test of each kind of line says
 row-known : (stage : ℕ) (names : List Name) (name label plus minus : List ℕ) → named stage names (row name label plus minus) ≡ true → (allDeclared names plus ≡ true) × (allDeclared names minus ≡ true)
@@ -81,10 +74,9 @@ entry-means names s other sets formed known = absurd (other-bad (s .stage) (leng
 
 -- and any line
 line-means : (names : List Name) (s : Typed) (line : List ℕ) → Sets (length names) s → Means (length names) s (judgeLine names s line)
-unfolding judgeLine typingLine judged
+unfolding judgeLine answered typingLine judged
 line-means names s line sets =
-    let says = lineOf (split 9 line) in
-    answered-means (length names) s (wellFormed (s .stage) (length names) says) (named (s .stage) names says) (entry names says) (entry-means names s says sets)
+    turn-cases (λ (a : TypingLine). Means (length names) s (answered s a)) TypingLine.Bad _ _ (λ k f. tt) (λ passed. entry-means names s (lineOf (split 9 line)) sets (passed .0) (passed .1 .0))
 
 -- ---- the typing that is read
 

@@ -17,8 +17,8 @@ use Rattle.writing.specs.Written.{spelled}
 use Rattle.spelling.specs.TypingText.{setText, labelText}
 use Rattle.typings.specs.declared.TypingEntry.{TypingEntry}
 use Rattle.typings.specs.declared.TypingLine.{TypingLine}
-use Rattle.fields.specs.Turns.{turnOf}
-use Rattle.typings.specs.TypingLines.{row, oneField, twoFields, lineOf, wellFormed, named, entry, answerTo, judged, typingLine}
+use Rattle.walking.specs.Turns.{inTurn, turn-passes}
+use Rattle.typings.specs.TypingLines.{row, oneField, twoFields, lineOf, wellFormed, named, entry, judged, typingLine}
 use Rattle.rereading.specs.Cuts.{free, cut-first, cut-last, free-join, free-name}
 use Rattle.rereading.specs.Joined.{Apart}
 use Rattle.tables.specs.Named.{Spelt, Named}
@@ -71,13 +71,13 @@ label-back false = refl
 
 -- The header is good before the first line,
 pub header-good : (names : List Name) → typingLine 0 names (bytes "typing\t1") ≡ TypingLine.Good TypingEntry.Header
-unfolding typingLine judged lineOf split onto twoFields sameBytes wellFormed named entry answerTo turnOf
+unfolding typingLine judged lineOf split onto twoFields sameBytes wellFormed named entry inTurn
 header-good names = refl
 
 -- and `end` after a row for each name.
 pub end-good : (names : List Name) → typingLine (suc (length names)) names (bytes "end") ≡ TypingLine.Good TypingEntry.End
-unfolding typingLine judged lineOf split onto oneField sameBytes wellFormed named entry answerTo turnOf
-end-good names = ap (λ (b : Bool). answerTo (turnOf b true) TypingEntry.End) (eq-eqb (suc (length names)) (length names + 1) (sym (add-one (length names))))
+unfolding typingLine judged lineOf split onto oneField sameBytes wellFormed named entry
+end-good names = turn-passes TypingLine.Bad _ _ (eq-eqb (suc (length names)) (length names + 1) (sym (add-one (length names))), (refl, tt))
 
 -- ---- the row
 
@@ -120,6 +120,6 @@ module _ {names : List Name} (all : Named names) {name : Name} (spelt : Spelt na
   -- It is good at its role's place, and says what it was written from.
   pub row-good : {role : ℕ} → role < length names → placeOf names name ≡ role → Inside (length names) plus → Inside (length names) minus
       → typingLine (suc role) names (lineText names name label plus minus) ≡ TypingLine.Good (TypingEntry.Row label plus minus)
-  unfolding typingLine judged lineOf entry answerTo turnOf
+  unfolding typingLine judged lineOf entry inTurn
   row-good {role} here at inside-plus inside-minus =
       rw (line-fields, row-formed here, row-named at, label-back label, set-back all plus inside-plus, set-back all minus inside-minus)

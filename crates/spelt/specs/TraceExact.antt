@@ -11,14 +11,14 @@ use Rattle.text.specs.Forms.{bytes, every}
 use Rattle.walking.specs.Texts.{goes, read}
 use Rattle.reading.specs.Policy.{Said, readPolicy}
 use Rattle.steps.specs.declared.Step.{Step}
-use Rattle.traces.specs.TraceText.{Traced, untraced, judgeLine, readTrace}
+use Rattle.traces.specs.TraceText.{Traced, untraced, begun, stepped, judgeLine, readTrace}
 use Rattle.rereading.specs.Cuts.{free}
 use Rattle.spelt.specs.Names.{Names}
 use Rattle.spelt.specs.Policies.{users-packed}
 use Rattle.spelt.specs.Lines.{ended, Lead, last, onward, InLines, lead-opened, lines-exact}
 use Rattle.spelt.specs.Trace.{StepsSpelt, none, TraceSpelt}
 use Rattle.spelt.specs.Trace as trace
-use Rattle.spelt.specs.TraceLines.{begun, stepped, Adds, first, another, goes-adds, adds-goes, spelt-clear, end-exact}
+use Rattle.spelt.specs.TraceLines.{Adds, first, another, goes-adds, adds-goes, spelt-clear, end-exact}
 
 -- a trace with some steps more
 unfoldable extended : Traced → List Step → Traced
@@ -29,7 +29,7 @@ unfolding extended
 extended-none s is = λ i. record { started = is i; steps = sym (append-nil (s .steps)) i }
 
 extended-more : (s : Traced) (step : Step) (steps : List Step) → extended (stepped s step) steps ≡ extended s (step ∷ steps)
-unfolding extended stepped
+unfolding extended
 extended-more s step steps = λ i. record { started = true; steps = append-assoc (s .steps) (step ∷ []) steps i }
 
 module _ (assigns revokes : ℕ) {users : List (List ℕ)} (all : Names users) where
@@ -44,7 +44,6 @@ module _ (assigns revokes : ℕ) {users : List (List ℕ)} (all : Names users) w
     leads : t ≡ extended s taken
 
   steps-left : {s t : Traced} {lines : List (List ℕ)} → s .started ≡ true → Lead (judgeLine assigns revokes (map packed users)) s lines t → Left s lines t
-  unfolding stepped
   steps-left at (last {s} {line} is) =
       let e = end-exact assigns revokes all s line .0 is in
       record { steps = []; taken = []; are = ap (λ (l : List ℕ). l ∷ []) (e .is); says = none; leads = extended-none s at }
@@ -71,7 +70,7 @@ module _ (assigns revokes : ℕ) {users : List (List ℕ)} (all : Names users) w
       go (another started spelt) = absurd (false≢true (sym fresh ∙ started))
 
   lead-spelt : {text : List ℕ} {t : Traced} → length text ≤ 32768 → InLines (judgeLine assigns revokes (map packed users)) untraced text t → TraceSpelt assigns revokes users text t
-  unfolding untraced begun extended
+  unfolding untraced extended
   lead-spelt short whole =
       let opened = lead-opened (judgeLine assigns revokes (map packed users)) (bytes "trace\t1") (begun untraced) (λ line is. false≢true (end-exact assigns revokes all untraced line .0 is .after)) (header-first untraced refl) (whole .lead) in
       let left = steps-left refl (opened .lead) in
@@ -88,7 +87,6 @@ module _ (assigns revokes : ℕ) {users : List (List ℕ)} (all : Names users) w
   -- the lines of steps lead on, none with an LF within
   steps-lead : {lines : List (List ℕ)} {steps : List Step} (s : Traced) → s .started ≡ true → StepsSpelt assigns revokes users lines steps
       → Lead (judgeLine assigns revokes (map packed users)) s (lines ++ (bytes "end" ∷ [])) (extended s steps)
-  unfolding stepped
   steps-lead s at none =
       subst (Lead (judgeLine assigns revokes (map packed users)) s (bytes "end" ∷ [])) (extended-none s at) (last (end-exact assigns revokes all s (bytes "end") .1 (record { is = refl; after = at })))
   steps-lead s at (trace.another {line} {step} {lines} {steps} spelt below) =
@@ -101,7 +99,7 @@ module _ (assigns revokes : ℕ) {users : List (List ℕ)} (all : Names users) w
   steps-clear (trace.another spelt below) = ap₂ _&&_ (spelt-clear assigns revokes all spelt) (steps-clear below)
 
   spelt-lead : {text : List ℕ} {t : Traced} → TraceSpelt assigns revokes users text t → InLines (judgeLine assigns revokes (map packed users)) untraced text t
-  unfolding untraced begun extended every free
+  unfolding untraced extended every free
   spelt-lead {text} {t} spelt = record {
     lines = bytes "trace\t1" ∷ (spelt .steps ++ (bytes "end" ∷ []));
     are = spelt .lines;

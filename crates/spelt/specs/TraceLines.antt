@@ -1,26 +1,26 @@
 -- The lines of a trace: each is judged good exactly when it is spelt so, after the lines above it.
 use Prim.Native.Nat.{ℕ, suc, _-_, _<_}
-use mathlib.Core.Bool.{Bool, true, false, cond, not, _&&_, and-eq-true-iff, true≢false}
-use mathlib.Core.List.{List, [], _∷_, _++_, map}
+use mathlib.Core.Bool.{Bool, true, false, cond, not, _&&_, and-eq-true-iff, true≢false, false≢true}
+use mathlib.Core.List.{List, [], _∷_, map}
 use mathlib.Core.Logic.{_↔_}
 use mathlib.Core.Path.{_≡_, refl, ap, subst, subst⁻¹, _∙_}
 use borrow.Author.Tests.{leb-true, le-leb, eqb-false, ne-eqb, not-true}
 use lib.Dec.{leb, eqb}
 use native.Mathlib.Omega.{arith}
-use Rattle.tables.specs.declared.Name.{Name}
 use Rattle.tables.specs.Names.{packed}
 use Rattle.text.specs.Forms.{bytes, every, isName, numberOf}
 use Rattle.text.specs.Pieces.{split, onto, sameBytes, same-equal, equal-same}
 use Rattle.fields.specs.Fields.{placed, isDeclared}
-use Rattle.fields.specs.Turns.{turnOf}
 use Rattle.walking.specs.Texts.{Judged, goes, ends, bad}
+use Rattle.walking.specs.Turns.{inTurn, turn-cases}
+use Rattle.walking.specs.Evidence.{tests}
 use Rattle.writing.specs.Written.{decimal}
 use Rattle.steps.specs.declared.Step.{Step}
 use Rattle.steps.specs.Places.{at-listed}
 use Rattle.traces.specs.declared.TraceLine.{TraceLine}
-use Rattle.traces.specs.TraceLines.{Line, fourFields, lineOf, isStep, stepNamed, answerTo, judged, traceLine}
+use Rattle.traces.specs.TraceLines.{Line, fourFields, lineOf, isStep, stepNamed, stepFormed, stepKnown, stepSaid, judged, traceLine}
 use Rattle.traces.specs.TraceLines as line
-use Rattle.traces.specs.TraceText.{Traced, headerLine, answered, laterLine, judgeLine}
+use Rattle.traces.specs.TraceText.{Traced, begun, stepped, headerLine, answered, laterLine, judgeLine}
 use Rattle.rereading.specs.Cuts.{free, free-name}
 use Rattle.rereading.specs.Joined.{Apart}
 use Rattle.rereading.specs.Rows.{tab, newline}
@@ -52,13 +52,6 @@ kind (w ∷ a ∷ b ∷ c ∷ []) = go (sameBytes w (bytes "assign")) (sameBytes
 kind (w ∷ a ∷ b ∷ c ∷ d ∷ more) = is-other
 
 -- ---- what a good line says
-
--- after the header, and after a step
-unfoldable pub begun : Traced → Traced
-begun s = record { started = true; steps = s .steps }
-
-unfoldable pub stepped : Traced → Step → Traced
-stepped s step = record { started = true; steps = s .steps ++ (step ∷ []) }
 
 -- A line adds: it is the header and the first line, or a step's line after it.
 pub data Adds (assigns revokes : ℕ) (users : List (List ℕ)) (s : Traced) : List ℕ → Traced → Type 0 where
@@ -134,10 +127,10 @@ module _ {users : List (List ℕ)} (all : Names users) where
         rw (declared-exact all actor-form .1 (at-listed (said .is-actor)), declared-exact all user-form .1 (at-listed (said .is-user)), digits .value, le-leb (suc rule) rules (said .is-rule))
 
     step-is : (make : ℕ → ℕ → ℕ → Step)
-        → answerTo (turnOf (isStep (said .actor-name) (decimal (suc rule)) (said .user-name)) (stepNamed rules (map packed users) (said .actor-name) (decimal (suc rule)) (said .user-name)))
-        (make (placed (map packed users) (said .actor-name)) (numberOf (decimal (suc rule)) - 1) (placed (map packed users) (said .user-name)))
+        → inTurn TraceLine.Bad (tests (isStep (said .actor-name) (decimal (suc rule)) (said .user-name)) (stepNamed rules (map packed users) (said .actor-name) (decimal (suc rule)) (said .user-name)))
+        (TraceLine.Step (make (placed (map packed users) (said .actor-name)) (numberOf (decimal (suc rule)) - 1) (placed (map packed users) (said .user-name))))
         ≡ TraceLine.Step (make actor rule user)
-    unfolding answerTo turnOf
+    unfolding inTurn
     step-is make =
         let less : suc rule - 1 ≡ rule = omega arith in
         rw (step-formed, step-named, placed-exact all actor-form actor .1 (said .is-actor) .0, placed-exact all user-form user .1 (said .is-user) .0, digits .value, less)
@@ -152,24 +145,17 @@ module _ (assigns revokes : ℕ) {users : List (List ℕ)} (all : Names users) w
 
   -- a step line after the header
   step-means : (s : Traced) (line : List ℕ) → s .started ≡ true → Means s line (answered s (traceLine assigns revokes (map packed users) line))
-  unfolding Means answered traceLine judged answerTo turnOf stepped
-  step-means s line started = go (kind (split 9 line)) (fields-parted 9 line)
+  unfolding Means answered traceLine judged stepFormed stepKnown stepSaid
+  step-means s line started =
+      turn-cases (λ (a : TraceLine). Means s line (answered s a)) TraceLine.Bad _ _ (λ k f. tt) (λ passed. another started (go (kind (split 9 line)) (fields-parted 9 line) (passed .0) (passed .1 .0)))
     where
-      table : List Name
-      table = map packed users
-
-      good : (formed known : Bool) (step : Step) → (formed ≡ true → known ≡ true → StepSpelt assigns revokes users line step) → Means s line (answered s (answerTo (turnOf formed known) step))
-      good true true step says = another started (says refl refl)
-      good true false step says = tt
-      good false known step says = tt
-
-      go : {fields : List (List ℕ)} {f : Line} → Kind fields f → line ≡ parted 9 fields → Means s line (answered s (judged assigns revokes table f))
-      go (is-assign {actor} {number} {user}) is = good _ _ _ (λ formed known. assign (step-read all actor number user is formed known))
-      go (is-revoke {actor} {number} {user}) is = good _ _ _ (λ formed known. revoke (step-read all actor number user is formed known))
-      go is-other is = tt
+      go : {fields : List (List ℕ)} {f : Line} → Kind fields f → line ≡ parted 9 fields → stepFormed f ≡ true → stepKnown assigns revokes (map packed users) f ≡ true → StepSpelt assigns revokes users line (stepSaid (map packed users) f)
+      go (is-assign {actor} {number} {user}) is formed known = assign (step-read all actor number user is formed known)
+      go (is-revoke {actor} {number} {user}) is formed known = revoke (step-read all actor number user is formed known)
+      go is-other is formed known = absurd (false≢true formed)
 
   line-means : (s : Traced) (line : List ℕ) → Means s line (judgeLine assigns revokes (map packed users) s line)
-  unfolding Means judgeLine laterLine headerLine begun
+  unfolding Means judgeLine laterLine headerLine
   line-means s line = go (s .started) refl
     where
       later : s .started ≡ true → (b : Bool) → sameBytes line (bytes "end") ≡ b → Means s line (cond b ends (answered s (traceLine assigns revokes (map packed users) line)))
@@ -193,7 +179,7 @@ module _ (assigns revokes : ℕ) {users : List (List ℕ)} (all : Names users) w
 
   -- a step's line is its step
   step-line : {line : List ℕ} {step : Step} → StepSpelt assigns revokes users line step → traceLine assigns revokes (map packed users) line ≡ TraceLine.Step step
-  unfolding traceLine lineOf fourFields sameBytes judged free every
+  unfolding traceLine lineOf fourFields sameBytes judged stepFormed stepKnown stepSaid free every
   step-line (assign said) = ap (λ (f : List (List ℕ)). judged assigns revokes (map packed users) (lineOf f)) (step-fields all said refl) ∙ step-is all said Step.Assign
   step-line (revoke said) = ap (λ (f : List (List ℕ)). judged assigns revokes (map packed users) (lineOf f)) (step-fields all said refl) ∙ step-is all said Step.Revoke
 
@@ -205,13 +191,13 @@ module _ (assigns revokes : ℕ) {users : List (List ℕ)} (all : Names users) w
 
   -- it is not `end`, which is no step
   not-end : (line : List ℕ) {step : Step} → traceLine assigns revokes (map packed users) line ≡ TraceLine.Step step → (b : Bool) → sameBytes line (bytes "end") ≡ b → b ≡ false
-  unfolding traceLine lineOf judged split onto
+  unfolding traceLine lineOf judged stepFormed inTurn split onto
   not-end line is true same = absurd (true≢false (cc (ap (traceLine assigns revokes (map packed users)) (same-equal line (bytes "end") same))))
   not-end line is false same = refl
 
   -- A line that adds leads on.
   pub adds-goes : {s t : Traced} {line : List ℕ} → Adds assigns revokes users s line t → judgeLine assigns revokes (map packed users) s line ≡ goes t
-  unfolding judgeLine laterLine headerLine sameBytes begun answered stepped
+  unfolding judgeLine laterLine headerLine sameBytes answered
   adds-goes {s} (first fresh) = rw fresh
   adds-goes {s} (another {line} started spelt) =
       let is = step-line spelt in

@@ -1,5 +1,5 @@
 -- A typing text is read exactly when it is spelt so.
-use Prim.Native.Nat.{ℕ, suc, _+_, _≤_}
+use Prim.Native.Nat.{ℕ, suc, _≤_}
 use mathlib.Core.Bool.{Bool, true, _&&_, and-eq-true-iff}
 use mathlib.Core.List.{List, [], _∷_, _++_, map, append-assoc, append-nil}
 use mathlib.Core.Logic.{_↔_}
@@ -14,13 +14,13 @@ use Rattle.walking.specs.Texts.{goes, read}
 use Rattle.reading.specs.Policy.{Said, readPolicy}
 use Rattle.reading.specs.Sound.{read-sound}
 use Rattle.steps.specs.Places.{At, here, there, at-inside}
-use Rattle.typings.specs.TypingText.{Typed, untyped, judgeLine, readTyping}
+use Rattle.typings.specs.TypingText.{Typed, untyped, headed, rowed, judgeLine, readTyping}
 use Rattle.rereading.specs.Cuts.{free}
 use Rattle.spelt.specs.Names.{Names}
 use Rattle.spelt.specs.Policies.{roles-packed}
 use Rattle.spelt.specs.Lines.{ended, Lead, last, onward, InLines, lead-opened, lines-exact}
 use Rattle.spelt.specs.Typing.{Row, Rows, none, row, TypingSpelt}
-use Rattle.spelt.specs.TypingLines.{headed, rowed, Adds, first, another, goes-adds, ends-end, adds-goes, end-ends, row-clear}
+use Rattle.spelt.specs.TypingLines.{Adds, first, another, goes-adds, ends-end, adds-goes, end-ends, row-clear}
 
 -- what stands where some names end is the next name
 seam : (done : List (List ℕ)) (next : List ℕ) (rest : List (List ℕ)) {name : List ℕ} {place : ℕ} → place ≡ length done → At name (done ++ (next ∷ rest)) place → name ≡ next
@@ -44,7 +44,7 @@ extended-none s all = λ i. record { stage = all i; labels = sym (append-nil (s 
 
 extended-more : (count : ℕ) (s : Typed) (label : Bool) (plus minus : RoleSet) (labels : List Bool) (pluses minuses : List RoleSet)
     → extended count (rowed s label plus minus) labels pluses minuses ≡ extended count s (label ∷ labels) (plus ∷ pluses) (minus ∷ minuses)
-unfolding extended rowed
+unfolding extended
 extended-more count s label plus minus labels pluses minuses = λ i. record {
   stage = count;
   labels = append-assoc (s .labels) (label ∷ []) labels i;
@@ -66,7 +66,6 @@ module _ {names : List (List ℕ)} (all : Names names) (few : length names ≤ 1
     leads : t ≡ extended (suc (length names)) s labels plus minus
 
   rows-left : (done rest : List (List ℕ)) → names ≡ done ++ rest → {s t : Typed} {lines : List (List ℕ)} → s .stage ≡ suc (length done) → Lead (judgeLine (map packed names)) s lines t → Left s rest lines t
-  unfolding rowed
   rows-left done [] parts at (last {s} is) =
       let e = ends-end all few is in
       record {
@@ -111,7 +110,7 @@ module _ {names : List (List ℕ)} (all : Names names) (few : length names ≤ 1
       go (another stage stands said) = absurd (omega arith)
 
   lead-spelt : {text : List ℕ} {t : Typed} → length text ≤ 32768 → InLines (judgeLine (map packed names)) untyped text t → TypingSpelt names text t
-  unfolding untyped headed extended
+  unfolding untyped extended
   lead-spelt {text} {t} short whole =
       let opened = lead-opened (judgeLine (map packed names)) (bytes "typing\t1") (headed untyped) (λ line is. omega (arith, ends-end all few is .after)) (header-first untyped refl) (whole .lead) in
       let left = rows-left [] names refl refl (opened .lead) in
@@ -128,7 +127,6 @@ module _ {names : List (List ℕ)} (all : Names names) (few : length names ≤ 1
   -- the lines of the roles that are left lead on
   rows-lead : (done : List (List ℕ)) {rest lines : List (List ℕ)} {labels : List Bool} {plus minus : List RoleSet} → names ≡ done ++ rest → (s : Typed) → s .stage ≡ suc (length done) → Rows names rest labels plus minus lines
       → Lead (judgeLine (map packed names)) s (lines ++ (bytes "end" ∷ [])) (extended (suc (length names)) s labels plus minus)
-  unfolding rowed
   rows-lead done parts s at none =
       let after : s .stage ≡ suc (length names) = omega (arith, ap length parts, length-append done []) in
       subst (Lead (judgeLine (map packed names)) s (bytes "end" ∷ []))
@@ -151,7 +149,7 @@ module _ {names : List (List ℕ)} (all : Names names) (few : length names ≤ 1
       ap₂ _&&_ (row-clear all few (parts .0) said) (rows-clear (parts .1) below)
 
   spelt-lead : {text : List ℕ} {t : Typed} → TypingSpelt names text t → InLines (judgeLine (map packed names)) untyped text t
-  unfolding untyped headed extended every free
+  unfolding untyped extended every free
   spelt-lead {text} {t} spelt = record {
     lines = bytes "typing\t1" ∷ (spelt .rows ++ (bytes "end" ∷ []));
     are = spelt .lines;

@@ -1,7 +1,7 @@
 -- The lines of a typing: each is judged good exactly when it is spelt so, after the lines above it.
 use Prim.Native.Nat.{ℕ, suc, _+_, _≤_}
 use mathlib.Core.Bool.{Bool, true, false, cond, _&&_, _||_, and-eq-true-iff, false≢true, true≢false}
-use mathlib.Core.List.{List, [], _∷_, _++_, map}
+use mathlib.Core.List.{List, [], _∷_, map}
 use mathlib.Core.Logic.{_↔_}
 use mathlib.Core.Path.{_≡_, refl, sym, ap, ap₂, subst, subst⁻¹, _∙_}
 use borrow.Author.Tests.{leb-true, le-leb, eqb-true, eq-eqb}
@@ -15,12 +15,13 @@ use Rattle.tables.specs.Names.{packed}
 use Rattle.text.specs.Forms.{bytes, every, isName, isLabel, isSet}
 use Rattle.text.specs.Pieces.{split, onto, sameBytes, same-equal}
 use Rattle.fields.specs.Fields.{placed, allDeclared, rolesOf}
-use Rattle.fields.specs.Turns.{turnOf}
 use Rattle.walking.specs.Texts.{Judged, goes, ends, bad}
+use Rattle.walking.specs.Turns.{inTurn, turn-cases}
 use Rattle.steps.specs.Places.{At, at-listed}
 use Rattle.spelling.specs.TypingText.{labelText}
-use Rattle.typings.specs.TypingLines.{Line, header, row, end, other, oneField, twoFields, lineOf, wellFormed, named, entry, answerTo, judged, typingLine}
-use Rattle.typings.specs.TypingText.{Typed, added, answered, judgeLine}
+use Rattle.typings.specs.declared.TypingLine.{TypingLine}
+use Rattle.typings.specs.TypingLines.{Line, header, row, end, other, oneField, twoFields, lineOf, wellFormed, named, entry, judged, typingLine}
+use Rattle.typings.specs.TypingText.{Typed, headed, rowed, added, answered, judgeLine}
 use Rattle.rereading.specs.Cuts.{free, free-name}
 use Rattle.rereading.specs.Joined.{Apart, free-joined}
 use Rattle.rereading.specs.Rows.{tab, newline, label-name, label-form, label-back, header-good, end-good}
@@ -67,13 +68,6 @@ end-bytes line = (λ is. fields-parted 9 line ∙ only (kind (split 9 line)) is,
     only is-other e = absurd (true≢false (cc))
 
 -- ---- what a good line says
-
--- after the header, and after a row
-unfoldable pub headed : Typed → Typed
-headed s = record { stage = 1; labels = s .labels; plus = s .plus; minus = s .minus }
-
-unfoldable pub rowed : Typed → Bool → RoleSet → RoleSet → Typed
-rowed s label plus minus = record { stage = suc (s .stage); labels = s .labels ++ (label ∷ []); plus = s .plus ++ (plus ∷ []); minus = s .minus ++ (minus ∷ []) }
 
 -- A line adds: it is the header and the first line, or a row with its role's name at its place.
 pub data Adds (names : List (List ℕ)) (s : Typed) : List ℕ → Typed → Type 0 where
@@ -128,26 +122,20 @@ module _ {names : List (List ℕ)} (all : Names names) (few : length names ≤ 1
 
   -- a line that is judged good is what it says
   line-means : (s : Typed) (line : List ℕ) → Means s line (judgeLine (map packed names) s line)
-  unfolding Means judgeLine answered typingLine judged answerTo turnOf added entry headed rowed wellFormed parted
-  line-means s line = go (kind (split 9 line)) (fields-parted 9 line)
+  unfolding Means judgeLine answered typingLine judged added entry wellFormed parted
+  line-means s line =
+      turn-cases (λ (a : TypingLine). Means s line (answered s a)) TypingLine.Bad _ _ (λ k f. tt) (λ passed. go (kind (split 9 line)) (fields-parted 9 line) (passed .0) (passed .1 .0))
     where
       table : List Name
       table = map packed names
 
-      good : (f : Line) (formed known : Bool) → wellFormed (s .stage) (length table) f ≡ formed → named (s .stage) table f ≡ known → (wellFormed (s .stage) (length table) f ≡ true → named (s .stage) table f ≡ true → Means s line (added s (entry table f)))
-          → Means s line (answered s (answerTo (turnOf formed known) (entry table f)))
-      good f true true a b says = says a b
-      good f true false a b says = tt
-      good f false known a b says = tt
-
-      go : {fields : List (List ℕ)} {f : Line} → Kind fields f → line ≡ parted 9 fields → Means s line (answered s (judged (s .stage) table f))
-      go is-end is = good end _ _ refl refl (λ formed known. record { is = is; after = eqb-true (s .stage) (length table + 1) formed ∙ add-one (length table) ∙ ap suc (length-map names packed) })
-      go (is-header {edition}) is =
-          good (header edition) _ _ refl refl (λ formed known.
+      go : {fields : List (List ℕ)} {f : Line} → Kind fields f → line ≡ parted 9 fields → wellFormed (s .stage) (length table) f ≡ true → named (s .stage) table f ≡ true → Means s line (added s (entry table f))
+      go is-end is formed known = record { is = is; after = eqb-true (s .stage) (length table + 1) formed ∙ add-one (length table) ∙ ap suc (length-map names packed) }
+      go (is-header {edition}) is formed known =
           let parts = and-eq-true-iff (eqb (s .stage) 0) (sameBytes edition (bytes "1")) .0 formed in
-          subst⁻¹ (λ (l : List ℕ). Adds names s l (headed s)) (is ∙ ap (λ (e : List ℕ). parted 9 (bytes "typing" ∷ e ∷ [])) (same-equal edition (bytes "1") (parts .1))) (first (eqb-true (s .stage) 0 (parts .0))))
-      go (is-row {name} {label} {plus} {minus}) is = good (row name label plus minus) _ _ refl refl (λ formed known. row-adds s name label plus minus is formed known)
-      go is-other is = good other _ _ refl refl (λ formed known. absurd (false≢true formed))
+          subst⁻¹ (λ (l : List ℕ). Adds names s l (headed s)) (is ∙ ap (λ (e : List ℕ). parted 9 (bytes "typing" ∷ e ∷ [])) (same-equal edition (bytes "1") (parts .1))) (first (eqb-true (s .stage) 0 (parts .0)))
+      go (is-row {name} {label} {plus} {minus}) is formed known = row-adds s name label plus minus is formed known
+      go is-other is formed known = absurd (false≢true formed)
 
   -- A line leads on only where it adds,
   pub goes-adds : {s t : Typed} {line : List ℕ} → judgeLine (map packed names) s line ≡ goes t → Adds names s line t
@@ -183,7 +171,7 @@ module _ {names : List (List ℕ)} (all : Names names) (few : length names ≤ 1
 
   -- A line that adds leads on,
   pub adds-goes : {s t : Typed} {line : List ℕ} → Adds names s line t → judgeLine (map packed names) s line ≡ goes t
-  unfolding judgeLine answered added typingLine judged lineOf entry answerTo turnOf headed rowed wellFormed named
+  unfolding judgeLine answered added typingLine judged lineOf entry inTurn wellFormed named
   adds-goes {s} (first start) = ap (λ (k : ℕ). answered s (typingLine k (map packed names) (bytes "typing\t1"))) start ∙ ap (answered s) (header-good (map packed names))
   adds-goes {s} (another {place} {name} {line} {label} {plus} {minus} stage at said) =
       let table = map packed names in

@@ -1,5 +1,5 @@
 -- One step line of a trace: when it is malformed, and when it names what it must not (document 01, "The texts").
-use Prim.Native.Nat.{ℕ, zero, suc, _-_}
+use Prim.Native.Nat.{ℕ, _-_}
 use mathlib.Core.Bool.{Bool, true, false, cond, not, _&&_, _||_, or-false}
 use mathlib.Core.List.{List, [], _∷_}
 use mathlib.Core.Path.{_≡_, refl, sym, ap, _∙_}
@@ -8,10 +8,11 @@ use lib.ListN.{length}
 use Rattle.tables.specs.declared.Name.{Name}
 use Rattle.text.specs.Forms.{bytes, isName, numberOf}
 use Rattle.text.specs.Pieces.{split, sameBytes}
+use Rattle.walking.specs.Turns.{inTurn}
+use Rattle.walking.specs.Evidence.{tests}
 use Rattle.steps.specs.declared.Step.{Step}
 use Rattle.fields.specs.Fields.{placed, isDeclared}
 use Rattle.traces.specs.declared.TraceLine.{TraceLine}
-use Rattle.fields.specs.Turns.{turnOf}
 
 -- A step line by its fields: an assign step, a revoke step, or neither.
 pub data Line : Type 0 where
@@ -41,18 +42,27 @@ isStep actor number user = isName actor && isName user && not (eqb (numberOf num
 unfoldable pub stepNamed : (rules : ℕ) → List Name → (actor number user : List ℕ) → Bool
 stepNamed rules users actor number user = isDeclared users actor && isDeclared users user && leb (numberOf number) rules
 
--- the step where there is no refusal, and else the refusal's number
-unfoldable pub answerTo : ℕ → Step → TraceLine
-answerTo zero step = TraceLine.Step step
-answerTo (suc number) step = TraceLine.Bad (suc number)
+-- A step line is well formed: an assign step or a revoke step.
+unfoldable pub stepFormed : Line → Bool
+stepFormed (assign actor number user) = isStep actor number user
+stepFormed (revoke actor number user) = isStep actor number user
+stepFormed other = false
 
--- The line's step, by places from 0, or its refusal: malformed, then names.
+-- It names users and a rule of the policy.
+unfoldable pub stepKnown : (assigns revokes : ℕ) → List Name → Line → Bool
+stepKnown assigns revokes users (assign actor number user) = stepNamed assigns users actor number user
+stepKnown assigns revokes users (revoke actor number user) = stepNamed revokes users actor number user
+stepKnown assigns revokes users other = true
+
+-- What the line says: its step, by places from 0. Any other line is malformed.
+unfoldable pub stepSaid : List Name → Line → Step
+stepSaid users (assign actor number user) = Step.Assign (placed users actor) (numberOf number - 1) (placed users user)
+stepSaid users (revoke actor number user) = Step.Revoke (placed users actor) (numberOf number - 1) (placed users user)
+stepSaid users other = Step.Assign 0 0 0
+
+-- What the line comes to: malformed, then names, and else its step.
 unfoldable pub judged : (assigns revokes : ℕ) → List Name → Line → TraceLine
-judged assigns revokes users (assign actor number user) =
-    answerTo (turnOf (isStep actor number user) (stepNamed assigns users actor number user)) (Step.Assign (placed users actor) (numberOf number - 1) (placed users user))
-judged assigns revokes users (revoke actor number user) =
-    answerTo (turnOf (isStep actor number user) (stepNamed revokes users actor number user)) (Step.Revoke (placed users actor) (numberOf number - 1) (placed users user))
-judged assigns revokes users other = TraceLine.Bad 15
+judged assigns revokes users line = inTurn TraceLine.Bad (tests (stepFormed line) (stepKnown assigns revokes users line)) (TraceLine.Step (stepSaid users line))
 
 -- A step line, judged by its fields.
 unfoldable pub traceLine : (assigns revokes : ℕ) → List Name → List ℕ → TraceLine
@@ -65,28 +75,21 @@ unfoldable pub stepOf : (assigning : Bool) (actor rule user : ℕ) → Step
 stepOf true actor rule user = Step.Assign actor rule user
 stepOf false actor rule user = Step.Revoke actor rule user
 
-pub answer-step : (number : ℕ) (step : Step) → number ≡ 0 → TraceLine.Step step ≡ answerTo number step
-unfolding answerTo
-answer-step number step none = sym (ap (λ (n : ℕ). answerTo n step) none)
-
-pub answer-bad : (number : ℕ) (step : Step) → (number ≡ 0 → ⊥) → TraceLine.Bad number ≡ answerTo number step
-unfolding answerTo
-answer-bad zero step some = absurd (some refl)
-answer-bad (suc number) step some = refl
-
 module _ (assigns revokes : ℕ) (users : List Name) where
   -- a step's two tests and its places, whatever the kind
-  pub step-judged : (word actor number user : List ℕ) {a u n rule count turned : ℕ} {is is′ assigning revoking : Bool} {step : Step} {answer : TraceLine} → assigning ≡ sameBytes word (bytes "assign")
+  pub step-judged : (word actor number user : List ℕ) {a u n rule count : ℕ} {is is′ assigning revoking : Bool} {step : Step} {answer : TraceLine} → assigning ≡ sameBytes word (bytes "assign")
       → revoking ≡ sameBytes word (bytes "revoke") → length users ≡ count → a ≡ placed users actor → u ≡ placed users user → n ≡ numberOf number → is ≡ isName actor → is′ ≡ isName user
-      → turned ≡ turnOf ((assigning || revoking) && ((is && is′) && not (eqb n 0))) ((ltb a count && ltb u count) && ((assigning && leb n assigns) || (not assigning && leb n revokes)))
-      → rule ≡ n - 1 → step ≡ stepOf assigning a rule u → answer ≡ answerTo turned step → answer ≡ judged assigns revokes users (fourFields word actor number user)
-  unfolding judged fourFields isStep stepNamed isDeclared stepOf answerTo turnOf
-  step-judged word actor number user kind kind′ many at at′ value formed formed′ told place made given =
+      → rule ≡ n - 1 → step ≡ stepOf assigning a rule u
+      → answer
+      ≡ inTurn TraceLine.Bad (tests ((assigning || revoking) && ((is && is′) && not (eqb n 0))) ((ltb a count && ltb u count) && ((assigning && leb n assigns) || (not assigning && leb n revokes)))) (TraceLine.Step step)
+      → answer ≡ judged assigns revokes users (fourFields word actor number user)
+  unfolding judged fourFields isStep stepNamed isDeclared stepOf stepFormed stepKnown stepSaid inTurn
+  step-judged word actor number user kind kind′ many at at′ value formed formed′ place made given =
       (cc) ∙ go (sameBytes word (bytes "assign")) (sameBytes word (bytes "revoke"))
     where
       go : (b d : Bool)
-          → answerTo (turnOf ((b || d) && isStep actor number user) ((isDeclared users actor && isDeclared users user) && ((b && leb (numberOf number) assigns) || (not b && leb (numberOf number) revokes))))
-          (stepOf b (placed users actor) (numberOf number - 1) (placed users user))
+          → inTurn TraceLine.Bad (tests ((b || d) && isStep actor number user) ((isDeclared users actor && isDeclared users user) && ((b && leb (numberOf number) assigns) || (not b && leb (numberOf number) revokes))))
+          (TraceLine.Step (stepOf b (placed users actor) (numberOf number - 1) (placed users user)))
           ≡ judged assigns revokes users (cond b (assign actor number user) (cond d (revoke actor number user) other))
       go true d = rw or-false
       go false true = refl

@@ -19,13 +19,20 @@ pub record Traced : Type 0 where
 unfoldable pub untraced : Traced
 untraced = record { started = false; steps = [] }
 
+-- after the header, and after a step
+abbrev pub begun : Traced → Traced
+begun s = record { started = true; steps = s .steps }
+
+abbrev pub stepped : Traced → Step → Traced
+stepped s step = record { started = true; steps = s .steps ++ (step ∷ []) }
+
 -- The first line is the header, `trace` `1`.
 unfoldable pub headerLine : Traced → List ℕ → Judged Traced
-headerLine s line = cond (sameBytes line (bytes "trace\t1")) (goes (record { started = true; steps = s .steps })) (bad 15)
+headerLine s line = cond (sameBytes line (bytes "trace\t1")) (goes (begun s)) (bad 15)
 
 -- A step goes after those above.
 unfoldable pub answered : Traced → TraceLine → Judged Traced
-answered s (TraceLine.Step step) = goes (record { started = true; steps = s .steps ++ (step ∷ []) })
+answered s (TraceLine.Step step) = goes (stepped s step)
 answered s (TraceLine.Bad number) = bad number
 
 -- After the header a line is `end` or a step line.

@@ -3,9 +3,10 @@ ghost use mathlib.Core.Path.{_≡_};
 ghost use Prim.Native.Nat.{_*_, _-_, _≤_};
 ghost use lib.ListN.{length};
 ghost use Rattle.tables.specs.Names.{rows};
-ghost use Rattle.traces.specs.TraceLines.{fourFields, answerTo, judged, traceLine, stepOf};
+ghost use Rattle.walking.specs.Turns.{inTurn};
+ghost use Rattle.walking.specs.Evidence.{tests};
+ghost use Rattle.traces.specs.TraceLines.{fourFields, judged, traceLine, stepOf};
 ghost use Rattle.traces.specs.TraceText.{codeOf};
-use fields::turns::turn;
 use lines::Counts;
 use steps::Step;
 
@@ -15,14 +16,17 @@ pub enum TraceLine {
     Bad(u64),
 }
 
-// The step where there is no refusal, and else the refusal's number.
-fn answer(number: u64, step: Step) -> TraceLine
-    ensures { λ r. ⌜ r ≡ answerTo number step ⌝ }
+// Malformed, then names.
+fn in_turn(formed: bool, known: bool, step: Step) -> TraceLine
+    ensures { λ r. ⌜ r ≡ inTurn TraceLine.Bad (tests formed known) (TraceLine.Step step) ⌝ }
 {
-    if number == 0 {
-        return TraceLine::Step(step);
+    if !formed {
+        return TraceLine::Bad(15);
     }
-    TraceLine::Bad(number)
+    if !known {
+        return TraceLine::Bad(16);
+    }
+    TraceLine::Step(step)
 }
 
 // The place, from 0, of what has a number from 1.
@@ -66,7 +70,7 @@ fn step_line(
     let formed = kind & (text::is_name(actor) & text::is_name(user) & (n != 0));
     let ruled = (assigning & (n <= c.assigns)) | (!assigning & (n <= c.revokes));
     let known = (a < count) & (u < count) & ruled;
-    answer(turn(formed, known), step_of(assigning, a, place_of(n), u))
+    in_turn(formed, known, step_of(assigning, a, place_of(n), u))
 }
 
 // One line after the header, without its LF, that is not `end`: judged on its own bytes, the user names and the rule counts.

@@ -1,19 +1,19 @@
 -- When a typing is refused, in document 01's words, and that reading answers exactly so.
-use Prim.Native.Nat.{ℕ, suc}
-use mathlib.Core.Bool.{Bool, true, false, true≢false}
-use mathlib.Core.List.{List, [], _∷_, _++_}
+use Prim.Native.Nat.{ℕ}
+use mathlib.Core.Bool.{Bool, true, false, cond, true≢false}
+use mathlib.Core.List.{List}
 use mathlib.Core.Logic.{_↔_}
-use mathlib.Core.Path.{_≡_, refl, sym}
+use mathlib.Core.Path.{_≡_, refl, sym, _∙_}
 use lib.ListN.{length}
 use Rattle.tables.specs.declared.Name.{Name}
 use Rattle.text.specs.Pieces.{split}
-use Rattle.fields.specs.Turns.{turnOf}
-use Rattle.walking.specs.Texts.{read, refused}
+use Rattle.walking.specs.Texts.{goes, ends, bad, read, refused}
+use Rattle.walking.specs.Turns.{inTurn, turn-made, turn-same}
 use Rattle.walking.specs.Meaning.{refusal-exact, read-exact}
-use Rattle.walking.specs.Evidence.{turned, EvidenceRefusal, EvidenceReadAs, refusal-means, reading-means}
+use Rattle.walking.specs.Evidence.{tests, EvidenceRefusal, EvidenceReadAs, refusal-means, reading-means}
 use Rattle.typings.specs.declared.TypingEntry.{TypingEntry}
 use Rattle.typings.specs.TypingLines as typing
-use Rattle.typings.specs.TypingText.{Typed, untyped, readTyping}
+use Rattle.typings.specs.TypingText.{Typed, untyped, headed, rowed, readTyping}
 use Rattle.typings.specs.TypingText as typings
 
 -- Whether a line by its fields is `end`.
@@ -25,8 +25,8 @@ lastRow typing.other = false
 
 -- what the rows say with one line more
 rowAdded : TypingEntry → Typed → Typed
-rowAdded TypingEntry.Header s = record { stage = 1; labels = s .labels; plus = s .plus; minus = s .minus }
-rowAdded (TypingEntry.Row label plus minus) s = record { stage = suc (s .stage); labels = s .labels ++ (label ∷ []); plus = s .plus ++ (plus ∷ []); minus = s .minus ++ (minus ∷ []) }
+rowAdded TypingEntry.Header s = headed s
+rowAdded (TypingEntry.Row label plus minus) s = rowed s label plus minus
 rowAdded TypingEntry.End s = s
 
 module _ (names : List Name) where
@@ -41,18 +41,15 @@ module _ (names : List Name) where
   typingLast s line = lastRow (typing.lineOf (split 9 line))
 
   typing-tells : (s : Typed) (line : List ℕ)
-      → typings.judgeLine names s line ≡ turned (typingFormed s line) (typingNamed s line) (typingLast s line) (rowAdded (typing.entry names (typing.lineOf (split 9 line))) s)
-  unfolding typings.judgeLine typings.answered typings.added typing.typingLine typing.judged typing.answerTo turnOf turned lastRow rowAdded typing.entry typing.wellFormed
-  typing-tells s line = go (typing.lineOf (split 9 line)) (typing.wellFormed (s .stage) (length names) (typing.lineOf (split 9 line))) refl (typing.named (s .stage) names (typing.lineOf (split 9 line)))
+      → typings.judgeLine names s line ≡ inTurn bad (tests (typingFormed s line) (typingNamed s line)) (cond (typingLast s line) ends (goes (rowAdded (typing.entry names (typing.lineOf (split 9 line))) s)))
+  unfolding typings.judgeLine typings.answered typings.added typing.typingLine typing.judged lastRow rowAdded typing.entry typing.wellFormed
+  typing-tells s line = turn-made (typings.answered s) _ _ _ ∙ turn-same bad _ _ _ (λ passed. says (typing.lineOf (split 9 line)) (passed .0))
     where
-      go : (f : typing.Line) (formed : Bool) → typing.wellFormed (s .stage) (length names) f ≡ formed → (known : Bool)
-          → typings.answered s (typing.answerTo (turnOf formed known) (typing.entry names f)) ≡ turned formed known (lastRow f) (rowAdded (typing.entry names f) s)
-      go f false is known = refl
-      go f true is false = refl
-      go (typing.header edition) true is true = refl
-      go (typing.row name label plus minus) true is true = refl
-      go typing.end true is true = refl
-      go typing.other true is true = absurd (true≢false (sym is))
+      says : (f : typing.Line) → typing.wellFormed (s .stage) (length names) f ≡ true → typings.added s (typing.entry names f) ≡ cond (lastRow f) ends (goes (rowAdded (typing.entry names f) s))
+      says (typing.header edition) is = refl
+      says (typing.row name label plus minus) is = refl
+      says typing.end is = refl
+      says typing.other is = absurd (true≢false (sym is))
 
   abbrev pub TypingRefusal : (text : List ℕ) (number line : ℕ) → Type 0
   TypingRefusal text = EvidenceRefusal (typings.judgeLine names) typingFormed typingNamed typingLast untyped text

@@ -1,5 +1,5 @@
 -- One line of a typing: when it is malformed, and when it names what it must not (document 01, "The texts").
-use Prim.Native.Nat.{ℕ, zero, suc, _+_, max}
+use Prim.Native.Nat.{ℕ, _+_, max}
 use mathlib.Core.Bool.{Bool, true, false, cond, _&&_, and-eq-true-iff}
 use mathlib.Core.List.{List, [], _∷_}
 use mathlib.Core.Path.{_≡_, refl, sym, ap, ap₂, _∙_}
@@ -8,11 +8,12 @@ use lib.ListN.{length}
 use Rattle.tables.specs.declared.Name.{Name}
 use Rattle.text.specs.Forms.{bytes, isName, isSet, isLabel}
 use Rattle.text.specs.Pieces.{split, sameBytes}
+use Rattle.walking.specs.Turns.{inTurn, turn-same}
+use Rattle.walking.specs.Evidence.{tests}
 use Rattle.fields.specs.declared.SetRead.{SetRead}
 use Rattle.fields.specs.Fields.{placed, allDeclared, rolesOf, faultOf, setRead, worse, set-fault, roles-read}
 use Rattle.typings.specs.declared.TypingEntry.{TypingEntry}
 use Rattle.typings.specs.declared.TypingLine.{TypingLine}
-use Rattle.fields.specs.Turns.{turnOf, by-fault}
 
 -- A line by its fields.
 pub data Line : Type 0 where
@@ -56,89 +57,72 @@ entry names (row name label plus minus) = TypingEntry.Row (sameBytes label (byte
 entry names end = TypingEntry.End
 entry names other = TypingEntry.End
 
--- the entry where there is no refusal, and else the refusal's number
-unfoldable pub answerTo : ℕ → TypingEntry → TypingLine
-answerTo zero e = TypingLine.Good e
-answerTo (suc number) e = TypingLine.Bad (suc number)
-
+-- What the line comes to: malformed, then names, and else what it says.
 unfoldable pub judged : (stage : ℕ) → List Name → Line → TypingLine
-judged stage names line = answerTo (turnOf (wellFormed stage (length names) line) (named stage names line)) (entry names line)
+judged stage names line = inTurn TypingLine.Bad (tests (wellFormed stage (length names) line) (named stage names line)) (TypingLine.Good (entry names line))
 
 unfoldable pub typingLine : (stage : ℕ) → List Name → List ℕ → TypingLine
 typingLine stage names line = judged stage names (lineOf (split 9 line))
 
 -- ---- each kind of line, from what a reader finds
 
--- what a line says counts only where it is good
-answer-entry : (formed known : Bool) (e e′ : TypingEntry) → (formed ≡ true → known ≡ true → e ≡ e′) → answerTo (turnOf formed known) e ≡ answerTo (turnOf formed known) e′
-unfolding answerTo turnOf
-answer-entry true true e e′ same = ap TypingLine.Good (same refl refl)
-answer-entry true false e e′ same = refl
-answer-entry false known e e′ same = refl
-
-pub answer-good : (number : ℕ) (e : TypingEntry) → number ≡ 0 → TypingLine.Good e ≡ answerTo number e
-unfolding answerTo
-answer-good number e none = sym (ap (λ (n : ℕ). answerTo n e) none)
-
-pub answer-bad : (number : ℕ) (e : TypingEntry) → (number ≡ 0 → ⊥) → TypingLine.Bad number ≡ answerTo number e
-unfolding answerTo
-answer-bad zero e some = absurd (some refl)
-answer-bad (suc number) e some = refl
-
-pub end-judged : (stage : ℕ) (names : List Name) (word : List ℕ) {count number : ℕ} {is : Bool} {answer : TypingLine} → length names ≡ count → is ≡ sameBytes word (bytes "end")
-    → number ≡ turnOf (is && eqb stage (count + 1)) true → answer ≡ answerTo number TypingEntry.End → answer ≡ judged stage names (oneField word)
-unfolding judged wellFormed named entry oneField turnOf
-end-judged stage names word {count} many same told given =
-    given ∙ ap (λ (n : ℕ). answerTo n TypingEntry.End) (told ∙ ap₂ (λ (b : Bool) (k : ℕ). turnOf (b && eqb stage (k + 1)) true) same (sym many)) ∙ go (sameBytes word (bytes "end"))
+pub end-judged : (stage : ℕ) (names : List Name) (word : List ℕ) {count : ℕ} {is : Bool} {answer : TypingLine} → length names ≡ count → is ≡ sameBytes word (bytes "end")
+    → answer ≡ inTurn TypingLine.Bad (tests (is && eqb stage (count + 1)) true) (TypingLine.Good TypingEntry.End) → answer ≡ judged stage names (oneField word)
+unfolding judged wellFormed named entry oneField
+end-judged stage names word many same given = (cc) ∙ go (sameBytes word (bytes "end"))
   where
-    go : (b : Bool) → answerTo (turnOf (b && eqb stage (length names + 1)) true) TypingEntry.End ≡ judged stage names (cond b end other)
+    go : (b : Bool) → inTurn TypingLine.Bad (tests (b && eqb stage (length names + 1)) true) (TypingLine.Good TypingEntry.End) ≡ judged stage names (cond b end other)
     go true = refl
     go false = refl
 
-pub header-judged : (stage : ℕ) (names : List Name) (word edition : List ℕ) {number : ℕ} {is one : Bool} {answer : TypingLine} → is ≡ sameBytes word (bytes "typing") → one ≡ sameBytes edition (bytes "1")
-    → number ≡ turnOf ((is && eqb stage 0) && one) true → answer ≡ answerTo number TypingEntry.Header → answer ≡ judged stage names (twoFields word edition)
-unfolding judged wellFormed named entry twoFields turnOf answerTo
-header-judged stage names word edition same first told given =
-    given ∙ ap (λ (n : ℕ). answerTo n TypingEntry.Header) (told ∙ ap₂ (λ (b o : Bool). turnOf ((b && eqb stage 0) && o) true) same first) ∙ go (sameBytes word (bytes "typing"))
+pub header-judged : (stage : ℕ) (names : List Name) (word edition : List ℕ) {is one : Bool} {answer : TypingLine} → is ≡ sameBytes word (bytes "typing") → one ≡ sameBytes edition (bytes "1")
+    → answer ≡ inTurn TypingLine.Bad (tests ((is && eqb stage 0) && one) true) (TypingLine.Good TypingEntry.Header) → answer ≡ judged stage names (twoFields word edition)
+unfolding judged wellFormed named entry twoFields inTurn
+header-judged stage names word edition same first given = (cc) ∙ go (sameBytes word (bytes "typing"))
   where
-    go : (b : Bool) → answerTo (turnOf ((b && eqb stage 0) && sameBytes edition (bytes "1")) true) TypingEntry.Header ≡ judged stage names (cond b (header edition) other)
+    go : (b : Bool)
+        → inTurn TypingLine.Bad (tests ((b && eqb stage 0) && sameBytes edition (bytes "1")) true) (TypingLine.Good TypingEntry.Header) ≡ judged stage names (cond b (header edition) other)
     go true = refl
     go false = refl
 
-pub row-judged : (stage : ℕ) (names : List Name) (name label plus minus : List ℕ) {P M : SetRead} {place count fault number : ℕ} {is lab high : Bool} {answer : TypingLine}
+-- a line whose fields have one fault together, beside what else it asks
+by-fault : (ordered own formed known : Bool) (answer : TypingLine)
+    → inTurn TypingLine.Bad (tests (ordered && ltb (faultOf formed known) 2) (own && eqb (faultOf formed known) 0)) answer ≡ inTurn TypingLine.Bad (tests (ordered && formed) (own && known)) answer
+unfolding inTurn faultOf
+by-fault true own true true answer = refl
+by-fault true own true false answer = refl
+by-fault true own false known answer = refl
+by-fault false own formed known answer = refl
+
+pub row-judged : (stage : ℕ) (names : List Name) (name label plus minus : List ℕ) {P M : SetRead} {place count fault : ℕ} {is lab high : Bool} {answer : TypingLine}
     → length names ≡ count → place ≡ placed names name → P ≡ setRead names plus → M ≡ setRead names minus → fault ≡ max (P .fault) (M .fault) → is ≡ isName name → lab ≡ isLabel label
-    → number ≡ turnOf ((((leb 1 stage && leb stage count) && is) && lab) && ltb fault 2) (eqb (place + 1) stage && eqb fault 0) → high ≡ sameBytes label (bytes "H")
-    → answer ≡ answerTo number (TypingEntry.Row high (P .roles) (M .roles)) → answer ≡ judged stage names (row name label plus minus)
+    → high ≡ sameBytes label (bytes "H")
+    → answer ≡ inTurn TypingLine.Bad (tests ((((leb 1 stage && leb stage count) && is) && lab) && ltb fault 2) (eqb (place + 1) stage && eqb fault 0)) (TypingLine.Good (TypingEntry.Row high (P .roles) (M .roles)))
+    → answer ≡ judged stage names (row name label plus minus)
 unfolding judged wellFormed named entry
-row-judged stage names name label plus minus {P} {M} {place} {count} {fault} {number} {is} {lab} {high} many at hP hM worst named-is labelled told tall given =
-    given
-    ∙ ap (λ (n : ℕ). answerTo n (TypingEntry.Row high (P .roles) (M .roles))) turned
-    ∙ answer-entry _ _ _ _ (λ f k. rows-same (and-eq-true-iff ordered (isSet plus && isSet minus) .0 f .1) (and-eq-true-iff (eqb (placed names name + 1) stage) (allDeclared names plus && allDeclared names minus) .0 k .1))
+row-judged stage names name label plus minus {P} {M} {fault = fault} {high = high} many at hP hM worst named-is labelled tall given =
+    (cc faults)
+    ∙ by-fault ordered own (isSet plus && isSet minus) (allDeclared names plus && allDeclared names minus) _
+    ∙ turn-same TypingLine.Bad _ _ _ (λ passed. rows-same (and-eq-true-iff ordered (isSet plus && isSet minus) .0 (passed .0) .1) (and-eq-true-iff own (allDeclared names plus && allDeclared names minus) .0 (passed .1 .0) .1))
   where
     ordered : Bool
     ordered = ((leb 1 stage && leb stage (length names)) && isName name) && isLabel label
 
+    own : Bool
+    own = eqb (placed names name + 1) stage
+
     faults : fault ≡ faultOf (isSet plus && isSet minus) (allDeclared names plus && allDeclared names minus)
     faults = worst ∙ ap₂ max (set-fault names plus hP) (set-fault names minus hM) ∙ worse (isSet plus) (allDeclared names plus) (isSet minus) (allDeclared names minus)
 
-    turned : number ≡ turnOf (ordered && (isSet plus && isSet minus)) (eqb (placed names name + 1) stage && (allDeclared names plus && allDeclared names minus))
-    turned =
-        told
-        ∙ ap₂ (λ (o n : Bool). turnOf (o && ltb fault 2) (n && eqb fault 0))
-        (ap₂ (λ (x y : Bool). ((leb 1 stage && leb stage count) && x) && y) named-is labelled ∙ ap (λ (k : ℕ). ((leb 1 stage && leb stage k) && isName name) && isLabel label) (sym many))
-        (ap (λ (k : ℕ). eqb (k + 1) stage) at)
-        ∙ ap (λ (f : ℕ). turnOf (ordered && ltb f 2) (eqb (placed names name + 1) stage && eqb f 0)) faults
-        ∙ by-fault ordered (eqb (placed names name + 1) stage) (isSet plus && isSet minus) (allDeclared names plus && allDeclared names minus)
-
     rows-same : (isSet plus && isSet minus) ≡ true → (allDeclared names plus && allDeclared names minus) ≡ true
-        → TypingEntry.Row high (P .roles) (M .roles) ≡ TypingEntry.Row (sameBytes label (bytes "H")) (rolesOf names plus) (rolesOf names minus)
+        → TypingLine.Good (TypingEntry.Row high (P .roles) (M .roles)) ≡ TypingLine.Good (TypingEntry.Row (sameBytes label (bytes "H")) (rolesOf names plus) (rolesOf names minus))
     rows-same f k =
         let forms = and-eq-true-iff (isSet plus) (isSet minus) .0 f in
         let knowns = and-eq-true-iff (allDeclared names plus) (allDeclared names minus) .0 k in
-        λ i. TypingEntry.Row (tall i) (roles-read names plus hP (forms .0) (knowns .0) i) (roles-read names minus hM (forms .1) (knowns .1) i)
+        λ i. TypingLine.Good (TypingEntry.Row (tall i) (roles-read names plus hP (forms .0) (knowns .0) i) (roles-read names minus hM (forms .1) (knowns .1) i))
 
 pub other-judged : (stage : ℕ) (names : List Name) → TypingLine.Bad 15 ≡ judged stage names other
-unfolding judged answerTo turnOf wellFormed
+unfolding judged inTurn wellFormed
 other-judged stage names = refl
 
 -- ---- the fields of a line

@@ -1,6 +1,6 @@
 -- What holds between two lines while a typing is read: the arrays are what the rows so far say, and the rest decides.
 use Prim.Native.Nat.{ℕ, suc, _+_, _-_, _≤_, _<_}
-use mathlib.Core.Bool.{Bool, true, false, _&&_, and-eq-true-iff}
+use mathlib.Core.Bool.{Bool, true, false, _&&_, and-eq-true-iff, true≢false}
 use mathlib.Core.List.{List, [], _∷_, _++_}
 use mathlib.Core.Path.{_≡_, refl, sym, ap, ap₂, subst, _∙_}
 use borrow.Author.Tests.{leb-true, eqb-true}
@@ -15,12 +15,12 @@ use Rattle.tables.specs.declared.Name.{Name}
 use Rattle.text.specs.Forms.{bytes, isName, isLabel, isSet}
 use Rattle.text.specs.Pieces.{split, part, sameBytes, Sought}
 use Rattle.walking.specs.Texts.{Judged, text-long}
+use Rattle.walking.specs.Turns.{turn-good}
 use Rattle.walking.specs.Walk.{On, on-start, on-end, on-tail, on-bad, on-goes, on-last, on-more}
 use Rattle.tables.specs.Storing.{store-next}
 use Rattle.typings.specs.declared.TypingEntry.{TypingEntry}
 use Rattle.typings.specs.declared.TypingLine.{TypingLine}
-use Rattle.fields.specs.Turns.{turnOf}
-use Rattle.typings.specs.TypingLines.{Line, header, row, end, other, lineOf, wellFormed, named, entry, answerTo, judged, typingLine}
+use Rattle.typings.specs.TypingLines.{Line, header, row, end, other, lineOf, wellFormed, entry, judged, typingLine}
 use Rattle.typings.specs.TypingText.{Typed, untyped, added, answered, judgeLine, readTyping, tableOf, refusedTyping, answerOf, typingRead}
 
 -- a good header stands first, and a good row at the place of a role
@@ -29,13 +29,7 @@ Fitting stage roles TypingEntry.Header = stage ≡ 0
 Fitting stage roles (TypingEntry.Row label plus minus) = (1 ≤ stage) × (stage ≤ roles)
 Fitting stage roles TypingEntry.End = Unit {0}
 
-good-answer : (formed known : Bool) (e e′ : TypingEntry) → answerTo (turnOf formed known) e ≡ TypingLine.Good e′ → (formed ≡ true) × (e ≡ e′)
-unfolding answerTo turnOf
-good-answer true true e e′ good = (refl, cc)
-good-answer true false e e′ good = absurd (let z : _≡_ {A = ℕ} 0 1 = cc in omega arith)
-good-answer false known e e′ good = absurd (let z : _≡_ {A = ℕ} 0 1 = cc in omega arith)
-
-entry-fits : (stage : ℕ) (names : List Name) (line : Line) → wellFormed stage (length names) line ≡ true → Fitting stage (length names) (entry names line)
+pub entry-fits : (stage : ℕ) (names : List Name) (line : Line) → wellFormed stage (length names) line ≡ true → Fitting stage (length names) (entry names line)
 unfolding wellFormed entry
 entry-fits stage names (header edition) formed = eqb-true stage 0 (and-eq-true-iff (eqb stage 0) (sameBytes edition (bytes "1")) .0 formed .0)
 entry-fits stage names (row name label plus minus) formed =
@@ -50,8 +44,9 @@ entry-fits stage names other formed = tt
 good-fits : (stage : ℕ) (names : List Name) (line : List ℕ) {e : TypingEntry} → typingLine stage names line ≡ TypingLine.Good e → Fitting stage (length names) e
 unfolding typingLine judged
 good-fits stage names line {e} good =
-    let told = good-answer (wellFormed stage (length names) (lineOf (split 9 line))) (named stage names (lineOf (split 9 line))) (entry names (lineOf (split 9 line))) e good in
-    subst (Fitting stage (length names)) (told .1) (entry-fits stage names (lineOf (split 9 line)) (told .0))
+    let (passed, says) = turn-good TypingLine.Bad _ _ (TypingLine.Good e) (λ k is. true≢false (cc)) good in
+    let is : entry names (lineOf (split 9 line)) ≡ e = cc in
+    subst (Fitting stage (length names)) is (entry-fits stage names (lineOf (split 9 line)) (passed .0))
 
 -- as many labels and sets as rows
 pub record Rowed (s : Typed) : Type 0 where

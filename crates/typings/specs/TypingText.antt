@@ -24,10 +24,16 @@ pub record Typed : Type 0 where
 unfoldable pub untyped : Typed
 untyped = record { stage = 0; labels = []; plus = []; minus = [] }
 
+-- after the header, and after a row
+abbrev pub headed : Typed → Typed
+headed s = record { stage = 1; labels = s .labels; plus = s .plus; minus = s .minus }
+
+abbrev pub rowed : Typed → Bool → RoleSet → RoleSet → Typed
+rowed s label plus minus = record { stage = suc (s .stage); labels = s .labels ++ (label ∷ []); plus = s .plus ++ (plus ∷ []); minus = s .minus ++ (minus ∷ []) }
+
 unfoldable pub added : Typed → TypingEntry → Judged Typed
-added s TypingEntry.Header = goes (record { stage = 1; labels = s .labels; plus = s .plus; minus = s .minus })
-added s (TypingEntry.Row label plus minus) =
-    goes (record { stage = suc (s .stage); labels = s .labels ++ (label ∷ []); plus = s .plus ++ (plus ∷ []); minus = s .minus ++ (minus ∷ []) })
+added s TypingEntry.Header = goes (headed s)
+added s (TypingEntry.Row label plus minus) = goes (rowed s label plus minus)
 added s TypingEntry.End = ends
 
 -- the refusal's number of a line that is not good

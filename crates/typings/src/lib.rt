@@ -5,13 +5,14 @@ ghost use lib.ListN.{length};
 ghost use mathlib.Core.List.{List};
 ghost use Rattle.tables.specs.declared.Name.{Name};
 ghost use Rattle.tables.specs.Names.{rows};
-ghost use Rattle.typings.specs.TypingLines.{Line, oneField, twoFields, answerTo, judged, typingLine};
+ghost use Rattle.walking.specs.Turns.{inTurn};
+ghost use Rattle.walking.specs.Evidence.{tests};
+ghost use Rattle.typings.specs.TypingLines.{Line, oneField, twoFields, judged, typingLine};
 ghost use Rattle.typings.specs.TypingText.{untyped, tableOf, codeOf, refusedTyping, typingRead};
 
 pub mod kind;
 
 use fields::read_set;
-use fields::turns::turn;
 use fields::worse;
 use model::Typing;
 use roles::RoleSet;
@@ -36,14 +37,17 @@ pub struct TypingRead {
     pub typing: Typing,
 }
 
-// The entry where there is no refusal, and else the refusal's number.
-fn answer(number: u64, entry: TypingEntry) -> TypingLine
-    ensures { λ r. ⌜ r ≡ answerTo number entry ⌝ }
+// Malformed, then names.
+fn in_turn(formed: bool, known: bool, entry: TypingEntry) -> TypingLine
+    ensures { λ r. ⌜ r ≡ inTurn TypingLine.Bad (tests formed known) (TypingLine.Good entry) ⌝ }
 {
-    if number == 0 {
-        return TypingLine::Good(entry);
+    if !formed {
+        return TypingLine::Bad(15);
     }
-    TypingLine::Bad(number)
+    if !known {
+        return TypingLine::Bad(16);
+    }
+    TypingLine::Good(entry)
 }
 
 // A line of one field: `end` after the last role.
@@ -52,7 +56,7 @@ fn end_line(word: &[u8], count: usize, stage: usize) -> TypingLine
     ensures { λ r. ⌜ ((names : List Name) → length names ≡ count → r ≡ judged stage names (oneField (now (word .entry)))) ⌝ }
 {
     let formed = text::same(word, b"end") & (stage == count + 1);
-    answer(turn(formed, true), TypingEntry::End)
+    in_turn(formed, true, TypingEntry::End)
 }
 
 // A line of two fields: the header, edition 1.
@@ -60,7 +64,7 @@ fn header_line(word: &[u8], edition: &[u8], stage: usize) -> TypingLine
     ensures { λ r. ⌜ ((names : List Name) → r ≡ judged stage names (twoFields (now (word .entry)) (now (edition .entry)))) ⌝ }
 {
     let formed = text::same(word, b"typing") & (stage == 0) & text::same(edition, b"1");
-    answer(turn(formed, true), TypingEntry::Header)
+    in_turn(formed, true, TypingEntry::Header)
 }
 
 // A line of four fields: a role's label, plus set and minus set, at the role's place.
@@ -81,12 +85,12 @@ fn row_line(
     let m = read_set(minus, roles, count);
     let fault = worse(p.fault, m.fault);
     let ordered = (1 <= stage) & (stage <= count) & text::is_name(name) & text::is_label(label);
-    let named = place + 1 == stage;
-    let number = turn(ordered & (fault < 2), named & (fault == 0));
+    let formed = ordered & (fault < 2);
+    let known = (place + 1 == stage) & (fault == 0);
     let high = text::same(label, b"H");
     let more = p.roles;
     let less = m.roles;
-    answer(number, TypingEntry::Row(high, more, less))
+    in_turn(formed, known, TypingEntry::Row(high, more, less))
 }
 
 // One line of a typing, without its LF, judged on its own bytes, its place and the role names.

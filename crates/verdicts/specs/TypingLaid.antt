@@ -1,10 +1,8 @@
 -- A typing that is read is laid out over the policy's roles: L and the empty sets stand past them, and the sets are words of 64 bits.
 use Prim.Native.Nat.{ℕ, zero, suc, _+_, _-_, _≤_, _<_}
-use mathlib.Core.Bool.{Bool, true, false, _&&_, and-eq-true-iff}
+use mathlib.Core.Bool.{false}
 use mathlib.Core.List.{List, [], _∷_, _++_, List·Memᴰ as Listed, List·Memᴰ·not-nil as not-nil}
 use mathlib.Core.Path.{_≡_, refl, subst, subst⁻¹, _∙_}
-use borrow.Author.Tests.{leb-true, eqb-true}
-use lib.Dec.{leb, eqb}
 use lib.ListN.{length, getD, replicate, length-append, List·getD-eq-default}
 use native.Mathlib.Decide.{decLt}
 use native.Mathlib.Omega.{arith}
@@ -15,19 +13,18 @@ use Rattle.model.specs.Policy.{L}
 use Rattle.model.specs.Meaning.{meaning}
 use Rattle.rules.specs.Exact.{Laid}
 use Rattle.tables.specs.declared.Name.{Name}
-use Rattle.text.specs.Forms.{bytes, isName, isSet, isLabel}
+use Rattle.text.specs.Forms.{bytes}
 use Rattle.text.specs.Pieces.{split, sameBytes}
 use Rattle.walking.specs.Texts.{goes, read, goes-one, goes-ends, goes-bad}
 use Rattle.fields.specs.Fields.{rolesOf}
 use Rattle.tables.specs.Padded.{padded}
+use Rattle.walking.specs.Turns.{turn-cases}
 use Rattle.walking.specs.Kept.{text-keeps}
 use Rattle.steps.specs.Places.{stands-at, at-listed}
-use Rattle.typings.specs.declared.TypingEntry.{TypingEntry}
 use Rattle.typings.specs.declared.TypingLine.{TypingLine}
-use Rattle.fields.specs.Turns.{turnOf}
-use Rattle.typings.specs.TypingLines.{Line, header, row, end, other, lineOf, wellFormed, named, entry, answerTo, judged, typingLine}
+use Rattle.typings.specs.TypingLines.{Line, header, row, end, other, lineOf, entry, judged, typingLine}
 use Rattle.typings.specs.TypingText.{Typed, untyped, added, answered, judgeLine, readTyping, tableOf}
-use Rattle.typings.specs.TypingReached.{Rowed}
+use Rattle.typings.specs.TypingReached.{Rowed, Fitting, entry-fits}
 use Rattle.fields.specs.Roles.{roles-sized}
 use Rattle.text.specs.Lists.{each-more}
 
@@ -40,37 +37,9 @@ pub record Rows (roles : ℕ) (t : Typed) : Type 0 where
 
 -- ---- what a good line keeps
 
--- a good line is well formed and says what its fields say
-answer-good : (formed known : Bool) (e e′ : TypingEntry) → answerTo (turnOf formed known) e ≡ TypingLine.Good e′ → (formed ≡ true) × (e ≡ e′)
-unfolding answerTo turnOf
-answer-good true true e e′ good = (refl, cc)
-answer-good true false e e′ good = absurd (let z : _≡_ {A = ℕ} 0 1 = cc in omega arith)
-answer-good false known e e′ good = absurd (let z : _≡_ {A = ℕ} 0 1 = cc in omega arith)
-
-line-good : (stage : ℕ) (names : List Name) (line : List ℕ) {e : TypingEntry} → typingLine stage names line ≡ TypingLine.Good e
-    → (wellFormed stage (length names) (lineOf (split 9 line)) ≡ true) × (entry names (lineOf (split 9 line)) ≡ e)
-unfolding typingLine judged
-line-good stage names line {e} good =
-    answer-good (wellFormed stage (length names) (lineOf (split 9 line))) (named stage names (lineOf (split 9 line))) (entry names (lineOf (split 9 line))) e good
-
--- a row stands after the header and before the end of the roles
-row-stage : (stage : ℕ) (names : List Name) (name label plus minus : List ℕ) → wellFormed stage (length names) (row name label plus minus) ≡ true → (1 ≤ stage) × (stage ≤ length names)
-unfolding wellFormed
-row-stage stage names name label plus minus formed =
-    let four = and-eq-true-iff (((leb 1 stage && leb stage (length names)) && isName name) && isLabel label) (isSet plus && isSet minus) .0 formed .0 in
-    let three = and-eq-true-iff ((leb 1 stage && leb stage (length names)) && isName name) (isLabel label) .0 four .0 in
-    let two = and-eq-true-iff (leb 1 stage && leb stage (length names)) (isName name) .0 three .0 in
-    let both = and-eq-true-iff (leb 1 stage) (leb stage (length names)) .0 two in
-    (leb-true 1 stage (both .0), leb-true stage (length names) (both .1))
-
-header-stage : (stage : ℕ) (names : List Name) (edition : List ℕ) → wellFormed stage (length names) (header edition) ≡ true → stage ≡ 0
-unfolding wellFormed
-header-stage stage names edition formed = eqb-true stage 0 (and-eq-true-iff (eqb stage 0) (sameBytes edition (bytes "1")) .0 formed .0)
-
-entry-rows : (names : List Name) (s t : Typed) (line : Line) → wellFormed (s .stage) (length names) line ≡ true → added s (entry names line) ≡ goes t → Rows (length names) s → Rows (length names) t
+entry-rows : (names : List Name) (s t : Typed) (line : Line) → Fitting (s .stage) (length names) (entry names line) → added s (entry names line) ≡ goes t → Rows (length names) s → Rows (length names) t
 unfolding added entry
-entry-rows names s t (header edition) formed is rows =
-    let start = header-stage (s .stage) names edition formed in
+entry-rows names s t (header edition) start is rows =
     subst (Rows (length names)) (goes-one is) (record {
       rowed = record {
         labels = omega (arith, start, rows .rowed .labels);
@@ -81,7 +50,7 @@ entry-rows names s t (header edition) formed is rows =
       plus = rows .plus;
       minus = rows .minus;
     })
-entry-rows names s t (row name label plus minus) formed is rows = subst (Rows (length names)) (goes-one is) (record {
+entry-rows names s t (row name label plus minus) here is rows = subst (Rows (length names)) (goes-one is) (record {
   rowed = record {
     labels = longer (length-append (s .labels) (sameBytes label (bytes "H") ∷ [])) (rows .rowed .labels);
     plus = longer (length-append (s .plus) (rolesOf names plus ∷ [])) (rows .rowed .plus);
@@ -92,23 +61,16 @@ entry-rows names s t (row name label plus minus) formed is rows = subst (Rows (l
   minus = each-more Sized (s .minus) (rows .minus) (roles-sized names minus);
 })
   where
-    here : (1 ≤ s .stage) × (s .stage ≤ length names)
-    here = row-stage (s .stage) names name label plus minus formed
-
     longer : {n m : ℕ} → n ≡ m + 1 → m ≡ s .stage - 1 → n ≡ suc (s .stage) - 1
     longer more many = omega (arith, here .0)
-entry-rows names s t end formed is rows = absurd (goes-ends is)
-entry-rows names s t other formed is rows = absurd (goes-ends is)
+entry-rows names s t end fits is rows = absurd (goes-ends is)
+entry-rows names s t other fits is rows = absurd (goes-ends is)
 
 line-rows : (names : List Name) (s t : Typed) (line : List ℕ) → judgeLine names s line ≡ goes t → Rows (length names) s → Rows (length names) t
-unfolding judgeLine answered
-line-rows names s t line is rows = go (typingLine (s .stage) names line) refl is
-  where
-    go : (a : TypingLine) → typingLine (s .stage) names line ≡ a → answered s a ≡ goes t → Rows (length names) t
-    go (TypingLine.Good e) told leads =
-        let (formed, says) = line-good (s .stage) names line told in
-        entry-rows names s t (lineOf (split 9 line)) formed (subst⁻¹ (λ (x : TypingEntry). added s x ≡ goes t) says leads) rows
-    go (TypingLine.Bad number) told leads = absurd (goes-bad leads)
+unfolding judgeLine answered typingLine judged
+line-rows names s t line =
+    turn-cases (λ (a : TypingLine). answered s a ≡ goes t → Rows (length names) s → Rows (length names) t) TypingLine.Bad _ _ (λ k f is. absurd (goes-bad is))
+    (λ passed. entry-rows names s t (lineOf (split 9 line)) (entry-fits (s .stage) names (lineOf (split 9 line)) (passed .0)))
 
 untyped-rows : (roles : ℕ) → Rows roles untyped
 unfolding untyped

@@ -1,19 +1,17 @@
 -- When a piece of evidence is refused and when it is read, in document 01's words, for any tests of its lines; and that reading means just this.
 use Prim.Native.Nat.{ℕ, suc, _≤_, _<_}
-use mathlib.Core.Bool.{Bool, true, false, true≢false}
+use mathlib.Core.Bool.{Bool, true, false, cond, true≢false}
 use mathlib.Core.List.{List, [], _∷_}
-use mathlib.Core.Logic.{_↔_}
+use mathlib.Core.Logic.{_↔_, inl, inr}
 use mathlib.Core.Path.{_≡_, refl, sym, subst, _∙_}
 use lib.ListN.{length}
 use Rattle.walking.specs.Texts.{Judged, goes, ends, bad}
+use Rattle.walking.specs.Turns.{Test, test, inTurn, Fails, turn-good, turn-bad, turn-passes, turn-fails}
 use Rattle.walking.specs.Meaning.{Unbroken, Above, LineAt, ReadAs, Refusal}
 
--- What the tests of a line make of it: malformed, then names; then it is the last line, or what it says is added.
-unfoldable pub turned : {S : Type 0} (formed known last : Bool) → S → Judged S
-turned true true true t = ends
-turned true true false t = goes t
-turned true false last t = bad 16
-turned false known last t = bad 15
+-- The tests of a line of evidence in turn: malformed, then names.
+abbrev pub tests : (formed known : Bool) → List Test
+tests formed known = test 15 formed ∷ test 16 known ∷ []
 
 module _ {S : Type 0} (judge : S → List ℕ → Judged S) (formed known last : S → List ℕ → Bool) (start : S) (text : List ℕ) where
   -- The line is well formed and names what it must not.
@@ -44,38 +42,33 @@ module _ {S : Type 0} (judge : S → List ℕ → Judged S) (formed known last :
     pub ending : LineAt judge start text number said line []
     pub is-end : EndLine said line
 
-  module _ (next : S → List ℕ → S) (tells : (s : S) (line : List ℕ) → judge s line ≡ turned (formed s line) (known s line) (last s line) (next s line)) where
+  -- A good line is the last, or what it says is added.
+  module _ (next : S → List ℕ → S)
+      (tells : (s : S) (line : List ℕ) → judge s line ≡ inTurn bad (tests (formed s line) (known s line)) (cond (last s line) ends (goes (next s line)))) where
     of-bad : (s : S) (line : List ℕ) {k n : ℕ} {rest : List ℕ} → LineAt judge start text n s line rest → judge s line ≡ bad k → EvidenceRefusal k n
-    unfolding turned
-    of-bad s line {k} {n} at is = go (formed s line) (known s line) (last s line) refl refl (sym (tells s line) ∙ is)
+    of-bad s line {k} {n} at is =
+        go (turn-bad bad (tests (formed s line) (known s line)) (cond (last s line) ends (goes (next s line))) (λ j e. cc) (good (last s line)) (sym (tells s line) ∙ is))
       where
-        go : (f w l : Bool) → formed s line ≡ f → known s line ≡ w → turned f w l (next s line) ≡ bad k → EvidenceRefusal k n
-        go true true true a b e = absurd (true≢false (cc))
-        go true true false a b e = absurd (true≢false (cc))
-        go true false l a b e = let same : 16 ≡ k = cc in subst (λ (j : ℕ). EvidenceRefusal j n) same (misnamed at (record { is-formed = a; is-unknown = b }))
-        go false w l a b e = let same : 15 ≡ k = cc in subst (λ (j : ℕ). EvidenceRefusal j n) same (malformed at a)
+        good : (l : Bool) → cond l ends (goes (next s line)) ≡ bad k → ⊥
+        good true e = true≢false (cc)
+        good false e = true≢false (cc)
+
+        go : Fails (tests (formed s line) (known s line)) k → EvidenceRefusal k n
+        go (inl (a, same)) = subst (λ (j : ℕ). EvidenceRefusal j n) same (malformed at a)
+        go (inr (a, inl (b, same))) = subst (λ (j : ℕ). EvidenceRefusal j n) same (misnamed at (record { is-formed = a; is-unknown = b }))
+        go (inr (a, inr (b, none))) = absurd none
 
     of-end : (s : S) (line : List ℕ) → judge s line ≡ ends → EndLine s line
-    unfolding turned
-    of-end s line is = go (formed s line) (known s line) (last s line) refl refl refl (sym (tells s line) ∙ is)
+    of-end s line is =
+        let (passed, ended) = turn-good bad (tests (formed s line) (known s line)) (cond (last s line) ends (goes (next s line))) ends (λ k e. true≢false (cc)) (sym (tells s line) ∙ is) in
+        record { is-formed = passed .0; is-known = passed .1 .0; is-last = go (last s line) ended }
       where
-        go : (f w l : Bool) → formed s line ≡ f → known s line ≡ w → last s line ≡ l → turned f w l (next s line) ≡ ends → EndLine s line
-        go true true true a b c e = record { is-formed = a; is-known = b; is-last = c }
-        go true true false a b c e = absurd (true≢false (cc))
-        go true false l a b c e = absurd (true≢false (cc))
-        go false w l a b c e = absurd (true≢false (cc))
-
-    is-malformed : (s : S) (line : List ℕ) → formed s line ≡ false → judge s line ≡ bad 15
-    unfolding turned
-    is-malformed s line a = tells s line ∙ rw a
-
-    is-misnamed : (s : S) (line : List ℕ) → Misnamed s line → judge s line ≡ bad 16
-    unfolding turned
-    is-misnamed s line m = tells s line ∙ rw (m .is-formed, m .is-unknown)
+        go : (l : Bool) → cond l ends (goes (next s line)) ≡ ends → l ≡ true
+        go true e = refl
+        go false e = absurd (true≢false (cc))
 
     is-ending : (s : S) (line : List ℕ) → EndLine s line → judge s line ≡ ends
-    unfolding turned
-    is-ending s line e = tells s line ∙ rw (e .is-formed, e .is-known, e .is-last)
+    is-ending s line e = tells s line ∙ turn-passes bad _ _ (e .is-formed, (e .is-known, tt)) ∙ rw (e .is-last)
 
     pub refusal-means : {k n : ℕ} → Refusal judge 15 14 start text k n ↔ EvidenceRefusal k n
     refusal-means = (go, back)
@@ -88,8 +81,8 @@ module _ {S : Type 0} (judge : S → List ℕ → Judged S) (formed known last :
 
         back : {k n : ℕ} → EvidenceRefusal k n → Refusal judge 15 14 start text k n
         back (EvidenceRefusal.too-long above) = Refusal.too-long above
-        back (EvidenceRefusal.malformed {n} {s} {line} at a) = Refusal.bad-line at (is-malformed s line a)
-        back (EvidenceRefusal.misnamed {n} {s} {line} at m) = Refusal.bad-line at (is-misnamed s line m)
+        back (EvidenceRefusal.malformed {n} {s} {line} at a) = Refusal.bad-line at (tells s line ∙ turn-fails bad _ _ (inl (a, refl)))
+        back (EvidenceRefusal.misnamed {n} {s} {line} at m) = Refusal.bad-line at (tells s line ∙ turn-fails bad _ _ (inr (m .is-formed, inl (m .is-unknown, refl))))
         back (EvidenceRefusal.no-end fits above tail) = Refusal.no-end fits above tail
         back (EvidenceRefusal.after-end {n} {s} {line} at e) = Refusal.after-end at (is-ending s line e)
 

@@ -3,7 +3,7 @@ use Prim.Native.Nat.{ℕ}
 use mathlib.Core.Bool.{Bool, true, false, cond}
 use mathlib.Core.List.{List, [], _∷_, _++_}
 use mathlib.Core.Logic.{_⊎_, inl, inr}
-use mathlib.Core.Path.{_≡_, refl}
+use mathlib.Core.Path.{_≡_, refl, sym, subst, _∙_}
 
 -- A test of a line, and the number with which a line that fails it is refused.
 pub data Test : Type 0 where
@@ -50,6 +50,16 @@ unfolding inTurn
 turn-fails bad [] good f = absurd f
 turn-fails bad (test number b ∷ more) good (inl (is, same)) = rw (is, same) refl
 turn-fails bad (test number b ∷ more) good (inr (is, later)) = rw is (turn-fails bad more good later)
+
+-- A refusal, which the good answer is not, comes of the first test that fails,
+pub turn-bad : {A : Type 0} (bad : ℕ → A) (tests : List Test) (good : A) {k : ℕ} → ((j : ℕ) → bad j ≡ bad k → j ≡ k) → (good ≡ bad k → ⊥) → inTurn bad tests good ≡ bad k → Fails tests k
+turn-bad bad tests good {k} one apart =
+    turn-cases (λ (x : _). x ≡ bad k → Fails tests k) bad tests good (λ j f is. subst (Fails tests) (one j is) f) (λ p is. absurd (apart is))
+
+-- and the good answer counts only where all tests pass.
+pub turn-same : {A : Type 0} (bad : ℕ → A) (tests : List Test) (good good′ : A) → (Pass tests → good ≡ good′) → inTurn bad tests good ≡ inTurn bad tests good′
+turn-same bad tests good good′ same =
+    turn-cases (λ (x : _). x ≡ inTurn bad tests good′) bad tests good (λ k f. sym (turn-fails bad tests good′ f)) (λ p. same p ∙ sym (turn-passes bad tests good′ p))
 
 -- What is made of the answers is made of what the line comes to,
 pub turn-made : {A B : Type 0} (f : A → B) (bad : ℕ → A) (tests : List Test) (good : A) → f (inTurn bad tests good) ≡ inTurn (λ k. f (bad k)) tests (f good)

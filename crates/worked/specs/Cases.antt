@@ -16,7 +16,7 @@ use Rattle.tables.specs.Names.{sameName}
 use Rattle.reading.specs.Policy.{policyOf}
 use Rattle.tables.specs.Padded.{padded}
 use Rattle.worked.specs.Policies.{reading}
-use Rattle.fields.specs.Turns.{turnOf}
+use Rattle.walking.specs.Turns.{inTurn}
 use Rattle.typings.specs.TypingLines as typing
 use Rattle.typings.specs.TypingText as typings
 use Rattle.traces.specs.TraceLines as trace
@@ -120,5 +120,5 @@ rows =
 
 -- Each row is answered so. P11 is a law by itself (`own-target-passes`).
 pub worked-cases : map (λ (r : Row). told (r .asked)) rows ≡ map (λ (r : Row). r .answer) rows
-unfolding reading judging padded indexOf revoked isNumber decimal first firstFrom numberOf turnOf typing.oneField typing.twoFields typing.lineOf typing.wellFormed typing.named typing.entry typing.answerTo typing.judged typing.typingLine typings.untyped typings.added typings.answered typings.judgeLine typings.readTyping typings.tableOf trace.fourFields trace.lineOf trace.isStep trace.stepNamed trace.answerTo trace.judged trace.traceLine traces.untraced traces.headerLine traces.laterLine traces.answered traces.judgeLine traces.readTrace isTyping mayAssign mayRevoke withTarget withoutTarget lowestGoal ownGoal badPerson goalOf firstBad assignAt revokeAt possible after later runOf lastVerdict ranVerdict readVerdict traceVerdict judgedAnswer typingAnswer traceAnswer evidenceAnswer answerAfter answerOf rulesVerdict sameName sameLists sameLabel samePerson sameDirectory whenRead answerIn whenSame whenAccepted mergeJudged mergeOutcome told
+unfolding reading judging padded indexOf revoked isNumber decimal first firstFrom numberOf inTurn typing.oneField typing.twoFields typing.lineOf typing.wellFormed typing.named typing.entry typing.judged typing.typingLine typings.untyped typings.added typings.answered typings.judgeLine typings.readTyping typings.tableOf trace.fourFields trace.lineOf trace.isStep trace.stepNamed trace.stepFormed trace.stepKnown trace.stepSaid trace.judged trace.traceLine traces.untraced traces.headerLine traces.laterLine traces.answered traces.judgeLine traces.readTrace isTyping mayAssign mayRevoke withTarget withoutTarget lowestGoal ownGoal badPerson goalOf firstBad assignAt revokeAt possible after later runOf lastVerdict ranVerdict readVerdict traceVerdict judgedAnswer typingAnswer traceAnswer evidenceAnswer answerAfter answerOf rulesVerdict sameName sameLists sameLabel samePerson sameDirectory whenRead answerIn whenSame whenAccepted mergeJudged mergeOutcome told
 worked-cases = refl

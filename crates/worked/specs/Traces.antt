@@ -8,8 +8,8 @@ use Rattle.tables.specs.Names.{packed}
 use Rattle.steps.specs.declared.Step.{Step}
 use Rattle.walking.specs.Texts.{Reading, read, refused}
 use Rattle.worked.specs.Policies.{reading}
-use Rattle.fields.specs.Turns.{turnOf}
-use Rattle.traces.specs.TraceLines.{fourFields, lineOf, isStep, stepNamed, answerTo, judged, traceLine}
+use Rattle.walking.specs.Turns.{inTurn}
+use Rattle.traces.specs.TraceLines.{fourFields, lineOf, isStep, stepNamed, stepFormed, stepKnown, stepSaid, judged, traceLine}
 use Rattle.traces.specs.TraceText.{Traced, untraced, headerLine, laterLine, answered, judgeLine, readTrace}
 
 -- the desk's users
@@ -70,5 +70,5 @@ texts =
     ∷ []
 
 pub worked-traces : map (λ (row : Row). summary (readTrace 2 1 desk (row .0))) texts ≡ map (λ (row : Row). row .1) texts
-unfolding reading isNumber decimal numberOf turnOf fourFields lineOf isStep stepNamed answerTo judged traceLine untraced headerLine laterLine answered judgeLine readTrace
+unfolding reading isNumber decimal numberOf inTurn fourFields lineOf isStep stepNamed stepFormed stepKnown stepSaid judged traceLine untraced headerLine laterLine answered judgeLine readTrace
 worked-traces = refl

@@ -1,5 +1,5 @@
 -- Worked typing texts over the desk's roles, computed from raw bytes: the desk's typing, and what is refused, with the refusal's number and line.
-use Prim.Native.Nat.{ℕ, _+_}
+use Prim.Native.Nat.{ℕ}
 use mathlib.Core.List.{List, [], _∷_, _++_, map}
 use mathlib.Core.Path.{_≡_, refl}
 use Rattle.roles.specs.declared.RoleSet.{RoleSet}
@@ -8,8 +8,8 @@ use Rattle.text.specs.Forms.{bytes}
 use Rattle.tables.specs.Names.{packed}
 use Rattle.walking.specs.Texts.{Reading, read, refused}
 use Rattle.worked.specs.Policies.{reading}
-use Rattle.fields.specs.Turns.{turnOf}
-use Rattle.typings.specs.TypingLines.{oneField, twoFields, lineOf, wellFormed, named, entry, answerTo, judged, typingLine}
+use Rattle.walking.specs.Turns.{inTurn}
+use Rattle.typings.specs.TypingLines.{oneField, twoFields, lineOf, wellFormed, named, entry, judged, typingLine}
 use Rattle.typings.specs.TypingText.{Typed, untyped, added, answered, judgeLine, readTyping}
 
 -- the desk's roles
@@ -60,5 +60,5 @@ texts =
     ∷ []
 
 pub worked-typings : map (λ (row : List ℕ × List ℕ). summary (readTyping desk (row .0))) texts ≡ map (λ (row : List ℕ × List ℕ). row .1) texts
-unfolding reading turnOf oneField twoFields lineOf wellFormed named entry answerTo judged typingLine untyped added answered judgeLine readTyping
+unfolding reading inTurn oneField twoFields lineOf wellFormed named entry judged typingLine untyped added answered judgeLine readTyping
 worked-typings = refl

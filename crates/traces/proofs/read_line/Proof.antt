@@ -2,7 +2,8 @@
 use borrow.Author.Needs.{needs}
 use mathlib.Core.Path.{_∙_}
 use Rattle.fields.specs.Cutting.{one-field, two-fields, three-fields, four-fields, more-fields}
-use Rattle.traces.specs.TraceLines.{lineOf, judged, by-fields}
+use Rattle.walking.specs.Turns.{inTurn}
+use Rattle.traces.specs.TraceLines.{lineOf, stepFormed, judged, by-fields}
 use Rattle.traces.proofs.read_line.Statement.{statement}
 use Rattle.traces.proofs.read_line.Tie as tie
 
@@ -10,7 +11,7 @@ seek-requires : tie.Need-seek-requires
 seek-requires c κs = search needs
 
 returns : tie.Need-returns
-unfolding lineOf judged
+unfolding lineOf judged stepFormed inTurn
 returns c = by-fields _ _ _ _ (one-field (c .before .seek .ensures) (c .if1 .taken))
 
 add-seek : tie.Need-add-seek
@@ -20,7 +21,7 @@ seek-requires-2 : tie.Need-seek-requires-2
 seek-requires-2 c κs = search needs
 
 returns-2 : tie.Need-returns-2
-unfolding lineOf judged
+unfolding lineOf judged stepFormed inTurn
 returns-2 c = by-fields _ _ _ _ (two-fields (c .before .before .before .seek .ensures) (c .before .before .if1 .left) (c .before .seek2 .ensures) (c .if2 .taken))
 
 add-seek-2 : tie.Need-add-seek-2
@@ -30,7 +31,7 @@ seek-requires-3 : tie.Need-seek-requires-3
 seek-requires-3 c κs = search needs
 
 returns-3 : tie.Need-returns-3
-unfolding lineOf judged
+unfolding lineOf judged stepFormed inTurn
 returns-3 c = by-fields _ _ _ _ (three-fields (c .before .before .before .before .before .seek .ensures) (c .before .before .before .before .if1 .left) (c .before .before .before .seek2 .ensures) (c .before .before .if2 .left) (c .before .seek3 .ensures) (c .if3 .taken))
 
 add-seek-3 : tie.Need-add-seek-3
@@ -40,7 +41,7 @@ seek-requires-4 : tie.Need-seek-requires-4
 seek-requires-4 c κs = search needs
 
 returns-4 : tie.Need-returns-4
-unfolding lineOf judged
+unfolding lineOf judged stepFormed inTurn
 returns-4 c = by-fields _ _ _ _ (more-fields (c .before .before .before .before .before .before .before .seek .ensures) (c .before .before .before .before .before .before .if1 .left) (c .before .before .before .before .before .seek2 .ensures) (c .before .before .before .before .if2 .left) (c .before .before .before .seek3 .ensures) (c .before .before .if3 .left) (c .before .seek4 .ensures) (c .if4 .taken) .2)
 
 sub-step-line : tie.Need-sub-step-line

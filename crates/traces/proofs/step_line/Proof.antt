@@ -40,24 +40,24 @@ is-name-requires c κs = search needs
 is-name-requires-2 : tie.Need-is-name-requires-2
 is-name-requires-2 c κs = search needs
 
-turn-requires : tie.Need-turn-requires
-turn-requires c κs = search needs
-
 place-of-requires : tie.Need-place-of-requires
 place-of-requires c κs = search needs
 
 step-of-requires : tie.Need-step-of-requires
 step-of-requires c κs = search needs
 
-answer-requires : tie.Need-answer-requires
-answer-requires c κs = search needs
+in-turn-requires : tie.Need-in-turn-requires
+in-turn-requires c κs = search needs
 
 returns : tie.Need-returns
 unfolding placed
 returns c =
-    let a = c .before .before .before .before .before .before .before .before .before .before .before .before .before .before .before .before .before .before .before .before .before .before .args in
+    let judging = c .before .before .before .before .before in
+    let found = judging .before .before .before in
+    let kinds = found .before .before in
+    let a = kinds .before .before .before .before .before .before .before .before .before .before .before .args in
     let places = placeOf (rows (a .c .users) (a .users .now)) in
-    step-judged _ _ _ (a .word .now) (a .actor .now) (a .number .now) (a .user .now) (c .before .before .before .before .before .before .before .before .before .before .before .before .before .before .before .same .ensures) (c .before .before .before .before .before .before .before .before .before .before .before .before .before .same2 .ensures) (rows-length _ _) (c .before .before .before .before .before .before .before .before .before .before .before .find .ensures ∙ ap places (c .before .before .before .before .before .before .before .before .before .before .before .before .pack .ensures)) (c .before .before .before .before .before .before .before .before .before .find2 .ensures ∙ ap places (c .before .before .before .before .before .before .before .before .before .before .pack2 .ensures)) (c .before .before .before .before .before .before .before .before .number .ensures) (c .before .before .before .before .before .before .before .is-name .ensures) (c .before .before .before .before .before .before .is-name2 .ensures) (c .before .before .before .turn .ensures) (c .before .before .place-of .ensures) (c .before .step-of .ensures) (c .answer .ensures)
+    step-judged _ _ _ (a .word .now) (a .actor .now) (a .number .now) (a .user .now) (kinds .before .before .before .before .same .ensures) (kinds .before .before .same2 .ensures) (rows-length _ _) (kinds .find .ensures ∙ ap places (kinds .before .pack .ensures)) (found .find2 .ensures ∙ ap places (found .before .pack2 .ensures)) (judging .before .before .number .ensures) (judging .before .is-name .ensures) (judging .is-name2 .ensures) (c .before .before .place-of .ensures) (c .before .step-of .ensures) (c .in-turn .ensures)
 
 pub step-line-spec : {M : Type 1} → statement M
 step-line-spec =
@@ -74,8 +74,7 @@ step-line-spec =
     number-requires
     is-name-requires
     is-name-requires-2
-    turn-requires
     place-of-requires
     step-of-requires
-    answer-requires
+    in-turn-requires
     returns)

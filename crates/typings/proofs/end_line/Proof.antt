@@ -13,16 +13,13 @@ same-requires c κs = search needs
 add-formed : tie.Need-add-formed
 add-formed c = search needs
 
-turn-requires : tie.Need-turn-requires
-turn-requires c κs = search needs
-
-answer-requires : tie.Need-answer-requires
-answer-requires c κs = search needs
+in-turn-requires : tie.Need-in-turn-requires
+in-turn-requires c κs = search needs
 
 returns : tie.Need-returns
-returns c = λ names many. end-judged _ names _ many (c .before .before .same .ensures) (c .before .turn .ensures) (c .answer .ensures)
+returns c = λ names many. end-judged _ names _ many (c .before .same .ensures) (c .in-turn .ensures)
 
 pub end-line-spec : {M : Type 1} → statement M
 end-line-spec =
     tie.close
-    (tie.spec slice-aggregate-same same-requires add-formed turn-requires answer-requires returns)
+    (tie.spec slice-aggregate-same same-requires add-formed in-turn-requires returns)

@@ -16,14 +16,11 @@ slice-aggregate-same-2 c = search needs
 same-requires-2 : tie.Need-same-requires-2
 same-requires-2 c κs = search needs
 
-turn-requires : tie.Need-turn-requires
-turn-requires c κs = search needs
-
-answer-requires : tie.Need-answer-requires
-answer-requires c κs = search needs
+in-turn-requires : tie.Need-in-turn-requires
+in-turn-requires c κs = search needs
 
 returns : tie.Need-returns
-returns c = λ names. header-judged _ names _ _ (c .before .before .before .before .same .ensures) (c .before .before .same2 .ensures) (c .before .turn .ensures) (c .answer .ensures)
+returns c = λ names. header-judged _ names _ _ (c .before .before .before .same .ensures) (c .before .same2 .ensures) (c .in-turn .ensures)
 
 pub header-line-spec : {M : Type 1} → statement M
 header-line-spec =
@@ -33,6 +30,5 @@ header-line-spec =
     same-requires
     slice-aggregate-same-2
     same-requires-2
-    turn-requires
-    answer-requires
+    in-turn-requires
     returns)

@@ -29,11 +29,11 @@ is-name-requires c κs = search needs
 is-label-requires : tie.Need-is-label-requires
 is-label-requires c κs = search needs
 
-add-named : tie.Need-add-named
-add-named c = omega (arith, c .before .before .before .before .before .find .ensures, place-most (rows (c .before .before .before .before .before .before .before .before .before .before .before .before .args .count) (c .before .before .before .before .before .before .before .before .before .before .before .before .args .roles .now)) (c .before .before .before .before .before .before .pack .result), rows-length (c .before .before .before .before .before .before .before .before .before .before .before .before .args .count) (c .before .before .before .before .before .before .before .before .before .before .before .before .args .roles .now), c .before .before .before .before .before .before .before .before .before .before .before .before .pre .3)
-
-turn-requires : tie.Need-turn-requires
-turn-requires c κs = search needs
+add-known : tie.Need-add-known
+add-known c =
+    let found = c .before .before .before .before .before in
+    let a = found .before .before .before .before .before .before .before .args in
+    omega (arith, found .find .ensures, place-most (rows (a .count) (a .roles .now)) (found .before .pack .result), rows-length (a .count) (a .roles .now), found .before .before .before .before .before .before .before .pre .3)
 
 slice-aggregate-same : tie.Need-slice-aggregate-same
 slice-aggregate-same c = search needs
@@ -41,12 +41,18 @@ slice-aggregate-same c = search needs
 same-requires : tie.Need-same-requires
 same-requires c κs = search needs
 
-answer-requires : tie.Need-answer-requires
-answer-requires c κs = search needs
+in-turn-requires : tie.Need-in-turn-requires
+in-turn-requires c κs = search needs
 
 returns : tie.Need-returns
 unfolding placed
-returns c = row-judged _ (rows (c .before .before .before .before .before .before .before .before .before .before .before .before .before .before .before .before .before .before .args .count) (c .before .before .before .before .before .before .before .before .before .before .before .before .before .before .before .before .before .before .args .roles .now)) _ _ _ _ (rows-length _ _) (c .before .before .before .before .before .before .before .before .before .before .before .find .ensures ∙ ap (placeOf (rows (c .before .before .before .before .before .before .before .before .before .before .before .before .before .before .before .before .before .before .args .count) (c .before .before .before .before .before .before .before .before .before .before .before .before .before .before .before .before .before .before .args .roles .now))) (c .before .before .before .before .before .before .before .before .before .before .before .before .pack .ensures)) (c .before .before .before .before .before .before .before .before .before .before .read-set .ensures) (c .before .before .before .before .before .before .before .before .before .read-set2 .ensures) (c .before .before .before .before .before .before .before .before .worse .ensures) (c .before .before .before .before .before .before .before .is-name .ensures) (c .before .before .before .before .before .before .is-label .ensures) (c .before .before .before .before .before .turn .ensures) (c .before .before .before .same .ensures) (c .answer .ensures)
+returns c =
+    let judging = c .before .before .before .before .before in
+    let reading = judging .before .before .before in
+    let found = reading .before .before in
+    let a = found .before .before .before .before .before .before .before .args in
+    let table = rows (a .count) (a .roles .now) in
+    row-judged _ table _ _ _ _ (rows-length _ _) (found .find .ensures ∙ ap (placeOf table) (found .before .pack .ensures)) (reading .before .read-set .ensures) (reading .read-set2 .ensures) (judging .before .before .worse .ensures) (judging .before .is-name .ensures) (judging .is-label .ensures) (c .before .before .before .same .ensures) (c .in-turn .ensures)
 
 pub row-line-spec : {M : Type 1} → statement M
 row-line-spec =
@@ -59,9 +65,8 @@ row-line-spec =
     worse-requires
     is-name-requires
     is-label-requires
-    add-named
-    turn-requires
+    add-known
     slice-aggregate-same
     same-requires
-    answer-requires
+    in-turn-requires
     returns)
