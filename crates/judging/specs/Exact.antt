@@ -12,11 +12,12 @@ use Rattle.model.specs.declared.Assign.{Assign}
 use Rattle.model.specs.declared.Revoke.{Revoke}
 use Rattle.model.specs.declared.Person.{Person}
 use Rattle.model.specs.Policy.{Policy, State, nobody, person}
+use Rattle.model.specs.Sized.{SizedRule}
 use Rattle.model.specs.Typing.{Typing, closure, AssignPasses, RevokePasses, WellTyped, HoldingsPass, GoalPasses, RulesPass, Accepted}
 use Rattle.model.specs.Meaning.{meaning}
 use Rattle.sheets.specs.Turned.{turnedOf}
 use Rattle.rules.specs.Tests.{personPasses, assignPasses, revokePasses, goalPasses}
-use Rattle.rules.specs.Exact.{Laid, SizedRule, person-exact, assign-exact, revoke-exact, goal-exact}
+use Rattle.rules.specs.Exact.{Laid, person-exact, assign-exact, revoke-exact, goal-exact}
 use Rattle.reading.specs.Policy.{Said, policyOf}
 use Rattle.steps.specs.Places.{at-inside, at-stands, stands-at, at-listed, listed-at}
 use Rattle.judging.specs.declared.Part.{Part}

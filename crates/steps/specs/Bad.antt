@@ -10,9 +10,9 @@ use native.Mathlib.Omega.{arith}
 use Rattle.roles.specs.declared.RoleSet.{RoleSet}
 use Rattle.roles.specs.Sets.{emptySet, includes}
 use Rattle.roles.specs.Members.{Within, Sized, includes-within}
+use Rattle.roles.specs.Joined.{within-exact}
 use Rattle.model.specs.declared.Person.{Person}
 use Rattle.model.specs.Policy.{L, State, nobody, person, Present, HoldsAll, Bad}
-use Rattle.rules.specs.Joined.{within-exact}
 use Rattle.steps.specs.declared.Found.{Found}
 use Rattle.steps.specs.First.{first, Earliest, Nowhere, look, first-some, first-none}
 use Rattle.steps.specs.Places.{at-inside, at-stands, stands-at, at-listed, listed-at}

@@ -7,11 +7,11 @@ use mathlib.Core.Logic.{_↔_}
 use mathlib.Core.Path.{_≡_, refl, sym, ap, ap₂, _∙_}
 use lib.ListN.{length}
 use Rattle.roles.specs.Members.{includes-within, within-includes, shares-share, share-shares}
+use Rattle.roles.specs.Joined.{not-exact}
 use Rattle.model.specs.declared.Assign.{Assign}
 use Rattle.model.specs.declared.Revoke.{Revoke}
 use Rattle.model.specs.Policy.{State, person, Present, CanAssign, CanRevoke}
-use Rattle.rules.specs.Joined.{not-exact}
-use Rattle.rules.specs.Exact.{SizedRule}
+use Rattle.model.specs.Sized.{SizedRule}
 use Rattle.steps.specs.declared.Step.{Step as TraceStep}
 use Rattle.steps.specs.Places.{stands-at, at-listed}
 use Rattle.steps.specs.Tests.{mayAssign, mayRevoke}

@@ -5,7 +5,7 @@ use mathlib.Core.List.{List, List·Memᴰ·not-nil as not-nil}
 use mathlib.Core.Path.{_≡_, subst}
 use native.Mathlib.Omega.{arith}
 use Rattle.roles.specs.Members.{Sized}
-use Rattle.rules.specs.Exact.{SizedRule}
+use Rattle.model.specs.Sized.{SizedRule}
 use Rattle.tables.specs.declared.Name.{Name}
 use Rattle.text.specs.Pieces.{split}
 use Rattle.lines.specs.declared.Counts.{Counts}
