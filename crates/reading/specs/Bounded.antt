@@ -5,7 +5,7 @@ use mathlib.Core.Path.{_≡_, refl, _∙_}
 use lib.ListN.{length, length-append, length-set}
 use native.Mathlib.Omega.{arith}
 use Rattle.roles.specs.Sets.{emptySet}
-use Rattle.model.specs.Policy.{holding, granted}
+use Rattle.model.specs.Policy.{granted}
 use Rattle.lines.specs.declared.Entry.{Entry}
 use Rattle.lines.specs.Lines.{Fitting}
 use Rattle.reading.specs.Policy.{Said, nothing, countsOf, added}
@@ -24,7 +24,7 @@ unfolding nothing
 bounded-nothing = record { roles = zero-le; users = zero-le; holdings = refl; assigns = zero-le; revokes = zero-le; goals = zero-le }
 
 pub bounded-added : (s : Said) (e : Entry) → Bounded s → Fitting (countsOf s) e → Bounded (added s e)
-unfolding countsOf added granted holding
+unfolding countsOf added granted
 bounded-added s Entry.Header b fits = record { roles = b .roles; users = b .users; holdings = b .holdings; assigns = b .assigns; revokes = b .revokes; goals = b .goals }
 bounded-added s (Entry.Role name) b fits = record { roles = omega (arith, length-append (s .roles) (name ∷ [])); users = b .users; holdings = b .holdings; assigns = b .assigns; revokes = b .revokes; goals = b .goals }
 bounded-added s (Entry.User name clearance) b fits = record {

@@ -141,10 +141,3 @@ readPolicy text = readText judgeLine 11 10 nothing text
 -- a list laid out in an array: its elements, then the same filling to the end
 unfoldable pub padded {ℓ} : {A : Type ℓ} → ℕ → A → List A → List A
 padded size filling elements = elements ++ replicate (size - length elements) filling
-
--- what fills the arrays
-unfoldable pub noAssign : Assign
-noAssign = record { admin = 0; positive = emptySet; negative = emptySet; target = 0 }
-
-unfoldable pub noRevoke : Revoke
-noRevoke = record { admin = 0; target = 0 }

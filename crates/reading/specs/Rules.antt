@@ -2,10 +2,11 @@
 use Prim.Native.Nat.{ℕ}
 use mathlib.Core.List.{List}
 use Rattle.roles.specs.Sets.{emptySet}
+use Rattle.model.specs.Policy.{noAssign, noRevoke}
 use Rattle.lines.specs.declared.Counts.{Counts}
 use Rattle.reading.specs.declared.policy.Rules.{Rules}
 use Rattle.reading.specs.Texts.{Reading, read, refused}
-use Rattle.reading.specs.Policy.{Said, nothing, countsOf, readPolicy, padded, noAssign, noRevoke}
+use Rattle.reading.specs.Policy.{Said, nothing, countsOf, readPolicy, padded}
 
 -- no refusal, and the rules and goals laid out, with the counts of the policy
 unfoldable pub laidWith : Counts → Said → Rules

@@ -8,6 +8,7 @@ use Rattle.roles.specs.declared.RoleSet.{RoleSet}
 use Rattle.roles.specs.Sets.{emptySet}
 use Rattle.model.specs.declared.Assign.{Assign}
 use Rattle.model.specs.declared.Revoke.{Revoke}
+use Rattle.model.specs.Policy.{noAssign, noRevoke}
 use Rattle.tables.specs.Names.{rows}
 use Rattle.text.specs.Pieces.{part, Sought}
 use Rattle.lines.specs.declared.Counts.{Counts}
@@ -15,7 +16,7 @@ use Rattle.lines.specs.declared.Entry.{Entry}
 use Rattle.lines.specs.declared.PolicyLine.{PolicyLine}
 use Rattle.lines.specs.Lines.{policyLine}
 use Rattle.reading.specs.declared.policy.Rules.{Rules}
-use Rattle.reading.specs.Policy.{Said, nothing, countsOf, added, entered, padded, noAssign, noRevoke}
+use Rattle.reading.specs.Policy.{Said, nothing, countsOf, added, entered, padded}
 use Rattle.reading.specs.Storing.{more-one, store-next}
 use Rattle.reading.specs.Between.{Between, fits-here, between-end, between-tail, between-bad, between-added, between-last, between-more}
 use Rattle.reading.specs.Rules.{laidWith, laidOut, refusedRules, rulesOf, rulesRead}

@@ -7,12 +7,12 @@ use lib.Seq.{take-at}
 use native.Mathlib.Omega.{arith}
 use Rattle.roles.specs.Sets.{emptySet}
 use Rattle.model.specs.declared.Person.{Person}
-use Rattle.model.specs.Policy.{nobody}
+use Rattle.model.specs.Policy.{noAssign, noRevoke, nobody}
 use Rattle.tables.specs.Names.{rows}
 use Rattle.reading.specs.declared.directory.Directory.{Directory}
 use Rattle.reading.specs.declared.policy.Rules.{Rules}
 use Rattle.reading.specs.Texts.{Reading, read, refused}
-use Rattle.reading.specs.Policy.{Said, countsOf, padded, noAssign, noRevoke}
+use Rattle.reading.specs.Policy.{Said, countsOf, padded}
 use Rattle.reading.specs.Rules.{laidWith, laidOut}
 use Rattle.reading.specs.Told.{Laid, users-laid, people-laid, tables-laid}
 use Rattle.traces.specs.TraceText.{Traced, readTrace}

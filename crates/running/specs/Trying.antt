@@ -6,9 +6,9 @@ use lib.ListN.{length, take, set}
 use Rattle.model.specs.declared.Assign.{Assign}
 use Rattle.model.specs.declared.Revoke.{Revoke}
 use Rattle.model.specs.declared.Person.{Person}
-use Rattle.model.specs.Policy.{State, person}
+use Rattle.model.specs.Policy.{State, person, withRole, withoutRole}
 use Rattle.steps.specs.declared.Step.{Step}
-use Rattle.steps.specs.Tests.{mayAssign, mayRevoke, withTarget, withoutTarget}
+use Rattle.steps.specs.Tests.{mayAssign, mayRevoke}
 use Rattle.steps.specs.Traces.{assignAt, revokeAt, possible, after}
 use Rattle.steps.specs.Arrays.{assign-may, revoke-may, assign-after, revoke-after, person-taken, assign-taken, revoke-taken}
 use Rattle.running.specs.declared.Tried.{Tried}
@@ -17,10 +17,10 @@ use Rattle.running.specs.Range.{Ranged}
 unfoldable pub triedIn : List Assign → List Revoke → List Person → Step → Tried
 triedIn assigns revokes persons (Step.Assign actor rule user) =
     let a = assignAt assigns rule in
-    record { possible = mayAssign a (person persons actor) (person persons user); place = user; user = withTarget a (person persons user) }
+    record { possible = mayAssign a (person persons actor) (person persons user); place = user; user = withRole (person persons user) (a .target) }
 triedIn assigns revokes persons (Step.Revoke actor rule user) =
     let r = revokeAt revokes rule in
-    record { possible = mayRevoke r (person persons actor) (person persons user); place = user; user = withoutTarget r (person persons user) }
+    record { possible = mayRevoke r (person persons actor) (person persons user); place = user; user = withoutRole (person persons user) (r .target) }
 
 module _ (assigns revokes users : ℕ) (rules : List Assign) (others : List Revoke) (persons : List Person) where
   -- A step in range is tried over the first elements as over all,

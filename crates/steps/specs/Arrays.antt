@@ -8,9 +8,9 @@ use lib.Seq.{getD-take}
 use Rattle.model.specs.declared.Assign.{Assign}
 use Rattle.model.specs.declared.Revoke.{Revoke}
 use Rattle.model.specs.declared.Person.{Person}
-use Rattle.model.specs.Policy.{State, nobody, person, holding, granted, revoked}
+use Rattle.model.specs.Policy.{State, nobody, person, withRole, withoutRole, granted, revoked}
 use Rattle.steps.specs.declared.Step.{Step as TraceStep}
-use Rattle.steps.specs.Tests.{mayAssign, mayRevoke, withTarget, withoutTarget}
+use Rattle.steps.specs.Tests.{mayAssign, mayRevoke}
 use Rattle.steps.specs.Traces.{assignAt, revokeAt, possible, after}
 
 -- ---- a step whose actor, rule and user are in range
@@ -27,12 +27,12 @@ module _ (assigns : List Assign) (revokes : List Revoke) (σ : State) (actor rul
   revoke-may a b c = rw (lt-ltb rule (length revokes) a, lt-ltb actor (length σ) b, lt-ltb user (length σ) c)
 
   -- the user's record is the one that changes
-  pub assign-after : after assigns revokes σ (TraceStep.Assign actor rule user) ≡ set σ user (withTarget (assignAt assigns rule) (person σ user))
-  unfolding after granted holding withTarget
+  pub assign-after : after assigns revokes σ (TraceStep.Assign actor rule user) ≡ set σ user (withRole (person σ user) (assignAt assigns rule .target))
+  unfolding after granted
   assign-after = refl
 
-  pub revoke-after : after assigns revokes σ (TraceStep.Revoke actor rule user) ≡ set σ user (withoutTarget (revokeAt revokes rule) (person σ user))
-  unfolding after revoked holding withoutTarget
+  pub revoke-after : after assigns revokes σ (TraceStep.Revoke actor rule user) ≡ set σ user (withoutRole (person σ user) (revokeAt revokes rule .target))
+  unfolding after revoked
   revoke-after = refl
 
 -- ---- a state and rules that are the first elements of arrays

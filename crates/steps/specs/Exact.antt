@@ -10,7 +10,7 @@ use Rattle.roles.specs.Members.{includes-within, within-includes, shares-share,
 use Rattle.roles.specs.Joined.{not-exact}
 use Rattle.model.specs.declared.Assign.{Assign}
 use Rattle.model.specs.declared.Revoke.{Revoke}
-use Rattle.model.specs.Policy.{State, person, Present, CanAssign, CanRevoke}
+use Rattle.model.specs.Policy.{State, person, Present, Holds, CanAssign, CanRevoke}
 use Rattle.model.specs.Sized.{SizedRule}
 use Rattle.steps.specs.declared.Step.{Step as TraceStep}
 use Rattle.steps.specs.Places.{stands-at, at-listed}
@@ -39,65 +39,61 @@ denied : (a : Bool) → not a ≡ true ↔ (a ≡ true → ⊥)
 denied a = not-exact a (λ e. e, λ e. e)
 
 module _ (σ : State) (actor user : ℕ) where
-  may-can : {rule : Assign} → Present σ actor → Present σ user → mayAssign rule (person σ actor) (person σ user) ≡ true → CanAssign σ actor rule user
+  may-can : {rule : Assign} → Present σ actor → Present σ user → mayAssign rule (person σ actor) (person σ user) ≡ true → CanAssign σ actor rule user × (Holds σ user (rule .target) → ⊥)
   unfolding mayAssign
   may-can {rule} actor-present user-present e =
-      let (admin, positive, negative, target) = four _ _ _ _ .0 e in
-      record {
-        actor-present = actor-present;
-        actor-holds = record { held = record { found = admin } };
-        user-present = user-present;
-        all = record { all = includes-within (rule .positive) (person σ user .roles) positive };
-        none = record { none = λ shared. denied _ .0 negative (share-shares (rule .negative) (person σ user .roles) shared) };
-        fresh = λ holds. denied _ .0 target (holds .held .found);
-      }
+      let (admin, positive, negative, target) = four _ _ _ _ .0 e in (
+        record {
+          actor-present = actor-present;
+          actor-holds = record { held = record { found = admin } };
+          user-present = user-present;
+          all = record { all = includes-within (rule .positive) (person σ user .roles) positive };
+          none = record { none = λ shared. denied _ .0 negative (share-shares (rule .negative) (person σ user .roles) shared) };
+        },
+        λ holds. denied _ .0 target (holds .held .found),
+      )
 
-  can-may : {rule : Assign} → SizedRule rule → CanAssign σ actor rule user → mayAssign rule (person σ actor) (person σ user) ≡ true
+  can-may : {rule : Assign} → SizedRule rule → CanAssign σ actor rule user → (Holds σ user (rule .target) → ⊥) → mayAssign rule (person σ actor) (person σ user) ≡ true
   unfolding mayAssign
-  can-may {rule} sized can =
+  can-may {rule} sized can fresh =
       four _ _ _ _ .1 (
         can .actor-holds .held .found,
         within-includes (sized .positive) (can .all .all),
         denied _ .1 (λ e. can .none .none (shares-share (sized .negative) e)),
-        denied _ .1 (λ e. can .fresh (record { held = record { found = e } })),
+        denied _ .1 (λ e. fresh (record { held = record { found = e } })),
       )
 
-  may-can-revoke : {rule : Revoke} → Present σ actor → Present σ user → mayRevoke rule (person σ actor) (person σ user) ≡ true → CanRevoke σ actor rule user
+  may-can-revoke : {rule : Revoke} → Present σ actor → Present σ user → mayRevoke rule (person σ actor) (person σ user) ≡ true → CanRevoke σ actor rule user × Holds σ user (rule .target)
   unfolding mayRevoke
   may-can-revoke {rule} actor-present user-present e =
       let (admin, target) = and-eq-true-iff _ _ .0 e in
-      record {
-        actor-present = actor-present;
-        actor-holds = record { held = record { found = admin } };
-        user-present = user-present;
-        user-holds = record { held = record { found = target } };
-      }
+      (record { actor-present = actor-present; actor-holds = record { held = record { found = admin } }; user-present = user-present }, record { held = record { found = target } })
 
-  can-may-revoke : {rule : Revoke} → CanRevoke σ actor rule user → mayRevoke rule (person σ actor) (person σ user) ≡ true
+  can-may-revoke : {rule : Revoke} → CanRevoke σ actor rule user → Holds σ user (rule .target) → mayRevoke rule (person σ actor) (person σ user) ≡ true
   unfolding mayRevoke
-  can-may-revoke {rule} can = ap₂ _&&_ (can .actor-holds .held .found) (can .user-holds .held .found)
+  can-may-revoke {rule} can holds = ap₂ _&&_ (can .actor-holds .held .found) (holds .held .found)
 
 module _ (assigns : List Assign) (revokes : List Revoke) (σ : State) (actor rule user : ℕ) where
-  -- An assign step is possible exactly when its rule is one of the list and the actor can use it on the user.
-  pub assign-possible : SizedRules assigns → possible assigns revokes σ (TraceStep.Assign actor rule user) ≡ true ↔ ((rule < length assigns) × CanAssign σ actor (assignAt assigns rule) user)
+  -- An assign step is possible exactly when its rule is one of the list, the actor can use it on the user, and the user doesn't yet hold the target.
+  pub assign-possible : SizedRules assigns → possible assigns revokes σ (TraceStep.Assign actor rule user) ≡ true ↔ ((rule < length assigns) × (CanAssign σ actor (assignAt assigns rule) user × (Holds σ user (assignAt assigns rule .target) → ⊥)))
   unfolding possible assignAt
   assign-possible sizes = (
     λ e.
         let (inside, actor-listed, user-listed, may) = four _ _ _ _ .0 e in
         (ltb-true _ _ inside, may-can σ actor user (record { listed = ltb-true _ _ actor-listed }) (record { listed = ltb-true _ _ user-listed }) may),
-    λ (inside, can).
+    λ (inside, (can, fresh)).
         four _ _ _ _ .1
-        (lt-ltb _ _ inside, lt-ltb _ _ (can .actor-present .listed), lt-ltb _ _ (can .user-present .listed), can-may σ actor user (sizes .sized (at-listed (stands-at _ assigns rule inside))) can),
+        (lt-ltb _ _ inside, lt-ltb _ _ (can .actor-present .listed), lt-ltb _ _ (can .user-present .listed), can-may σ actor user (sizes .sized (at-listed (stands-at _ assigns rule inside))) can fresh),
   )
 
-  -- A revoke step likewise.
-  pub revoke-possible : possible assigns revokes σ (TraceStep.Revoke actor rule user) ≡ true ↔ ((rule < length revokes) × CanRevoke σ actor (revokeAt revokes rule) user)
+  -- A revoke step likewise, and the user holds the target.
+  pub revoke-possible : possible assigns revokes σ (TraceStep.Revoke actor rule user) ≡ true ↔ ((rule < length revokes) × (CanRevoke σ actor (revokeAt revokes rule) user × Holds σ user (revokeAt revokes rule .target)))
   unfolding possible
   revoke-possible = (
     λ e.
         let (inside, actor-listed, user-listed, may) = four _ _ _ _ .0 e in
         (ltb-true _ _ inside, may-can-revoke σ actor user (record { listed = ltb-true _ _ actor-listed }) (record { listed = ltb-true _ _ user-listed }) may),
-    λ (inside, can). four _ _ _ _ .1 (lt-ltb _ _ inside, lt-ltb _ _ (can .actor-present .listed), lt-ltb _ _ (can .user-present .listed), can-may-revoke σ actor user can),
+    λ (inside, (can, holds)). four _ _ _ _ .1 (lt-ltb _ _ inside, lt-ltb _ _ (can .actor-present .listed), lt-ltb _ _ (can .user-present .listed), can-may-revoke σ actor user can holds),
   )
 
 -- ---- a broken run

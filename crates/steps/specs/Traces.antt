@@ -4,19 +4,18 @@ use mathlib.Core.Bool.{Bool, cond, _&&_}
 use mathlib.Core.List.{List, [], _∷_}
 use lib.Dec.{ltb}
 use lib.ListN.{length, getD}
-use Rattle.roles.specs.Sets.{emptySet}
 use Rattle.model.specs.declared.Assign.{Assign}
 use Rattle.model.specs.declared.Revoke.{Revoke}
-use Rattle.model.specs.Policy.{State, person, granted, revoked}
+use Rattle.model.specs.Policy.{noAssign, noRevoke, State, person, granted, revoked}
 use Rattle.steps.specs.declared.Step.{Step as TraceStep}
 use Rattle.steps.specs.Tests.{mayAssign, mayRevoke}
 
 -- The rule at a place of the list. Past its end stands what is no rule.
 unfoldable pub assignAt : List Assign → ℕ → Assign
-assignAt assigns rule = getD assigns rule (record { admin = 0; positive = emptySet; negative = emptySet; target = 0 })
+assignAt assigns rule = getD assigns rule noAssign
 
 unfoldable pub revokeAt : List Revoke → ℕ → Revoke
-revokeAt revokes rule = getD revokes rule (record { admin = 0; target = 0 })
+revokeAt revokes rule = getD revokes rule noRevoke
 
 -- The actor and the user are listed, the rule is one of its list, and the actor may use it on the user.
 unfoldable pub possible : List Assign → List Revoke → State → TraceStep → Bool

@@ -7,7 +7,7 @@ use mathlib.Core.Bool.{false}
 use mathlib.Core.Logic.{⊎-elim}
 use mathlib.Core.Path.{_≡_, sym, ap, subst, _∙_}
 use native.Mathlib.Omega.{arith}
-use Rattle.model.specs.Policy.{nobody, person}
+use Rattle.model.specs.Policy.{noAssign, noRevoke, nobody, person}
 use Rattle.roles.specs.Sets.{emptySet}
 use Rattle.text.specs.Forms.{bytes}
 use Rattle.text.specs.Pieces.{part, sameBytes}
@@ -68,7 +68,7 @@ abbrev tried-over : tie.Then6 Inv-loop μ-loop → Step → Tried
 tried-over c = triedIn (c .before .before .before .before .before .before .before .before .before .before .before .before .before .before .before .before .before .before .before .before .args .t4 .assigns) (c .before .before .before .before .before .before .before .before .before .before .before .before .before .before .before .before .before .before .before .before .args .t4 .revokes) (c .before .before .before .before .before .before .before .before .before .before .before .before .loop .persons)
 
 tried-said : (c : tie.At-match2-came Inv-loop μ-loop) → c .match2 .tried ≡ tried-over (c .before) (c .before .before .before .answer .given .0 .0)
-unfolding nobody emptySet assignAt revokeAt person triedIn
+unfolding nobody emptySet noAssign noRevoke assignAt revokeAt person triedIn
 tried-said c =
     ⊎-elim (λ w. w .7 ∙ (λ i. record { possible = w .6 .ensures .0 i; place = w .6 .ensures .1 i; user = w .6 .ensures .2 i }) ∙ sym (ap (tried-over (c .before)) (w .1 .given .1)))
     (λ w. w .7 ∙ (λ i. record { possible = w .6 .ensures .0 i; place = w .6 .ensures .1 i; user = w .6 .ensures .2 i }) ∙ sym (ap (tried-over (c .before)) (w .1 .given .1)))
