@@ -40,9 +40,13 @@ joint P Q = record {
   goals = P .goals ++ Q .goals;
 }
 
+-- The assign rule of an administrative role, a positive set, a negative set and a target role.
+abbrev pub assigning : ℕ → RoleSet → RoleSet → ℕ → Assign
+assigning admin positive negative target = record { admin = admin; positive = positive; negative = negative; target = target }
+
 -- What stands for a place past the end of a list of rules: no rule.
 unfoldable pub noAssign : Assign
-noAssign = record { admin = 0; positive = emptySet; negative = emptySet; target = 0 }
+noAssign = assigning 0 emptySet emptySet 0
 
 unfoldable pub noRevoke : Revoke
 noRevoke = record { admin = 0; target = 0 }

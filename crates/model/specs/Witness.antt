@@ -10,7 +10,7 @@ use Rattle.roles.specs.Sets.{bit, hasRole, emptySet, singleOf, unionOf, meetOf,
 use Rattle.roles.specs.Members.{_∈_, empty-none, single-only, single-own, with-old, with-new, share-none, includes-within}
 use Rattle.model.specs.declared.Assign.{Assign}
 use Rattle.model.specs.declared.Person.{Person}
-use Rattle.model.specs.Policy.{Label, L, H, Policy, State, nobody, person, Present, CanAssign, withRole, granted, Step, Runs}
+use Rattle.model.specs.Policy.{Label, L, H, Policy, assigning, State, nobody, person, Present, CanAssign, withRole, granted, Step, Runs}
 use Rattle.model.specs.Typing.{Typing, Held, Absent, closure, UpTo, AssignPasses, WellTyped, GoalPasses, Accepted}
 use Rattle.model.specs.Safety.{Attack}
 
@@ -25,7 +25,7 @@ buy = 2
 
 -- a rule of the desk: adm gives a role to who has none of the negative set
 abbrev giving : RoleSet → ℕ → Assign
-giving negative target = record { admin = adm; positive = emptySet; negative = negative; target = target }
+giving = assigning adm emptySet
 
 abbrev goal : RoleSet
 goal = withOf (singleOf pay) buy
