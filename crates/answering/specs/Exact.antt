@@ -23,7 +23,7 @@ use Rattle.running.specs.declared.TraceVerdict.{TraceVerdict}
 use Rattle.running.specs.Verdict.{traceVerdict}
 use Rattle.running.specs.Exact.{Attacked, Broken, Short, attacked-attack}
 use Rattle.running.specs.Exact as running
-use Rattle.verdicts.specs.PolicySized.{read-sized, read-rules-sized, read-goals-sized}
+use Rattle.verdicts.specs.PolicySized.{read-sized}
 use Rattle.verdicts.specs.Verdicts as verdicts
 use Rattle.answering.specs.declared.Answer.{Answer}
 use Rattle.answering.specs.CheckRules.{TypingTexts, TraceTexts, Safe}
@@ -165,7 +165,7 @@ module _ (policy evidence : List ℕ) where
     where
       first : {s : Said} {t : Typed} → readPolicy policy ≡ read s → readTyping (s .roles) evidence ≡ read t
           → typingVerdict s (tableOf t) ≡ TypingVerdict.Fails part number ↔ FirstFailure (meaning (tableOf t)) (policyOf s) (s .holdings) part number
-      first reads over = judging.unproved-first (read-sized policy reads) (verdicts.texts-laid policy evidence reads over) part number
+      first {s} reads over = judging.unproved-first s (read-sized policy reads) (verdicts.texts-laid policy evidence reads over) part number
 
   -- ---- traces
 
@@ -187,17 +187,17 @@ module _ (policy evidence : List ℕ) where
   -- ATTACKED with its values exactly when the evidence is read as a trace whose steps are a run that ends bad: user and goal are the first.
   pub attacked-exact : (n u g : ℕ) → answerOf policy evidence ≡ Answer.Attacked n u g ↔ TraceTexts policy (λ s. Attacked s evidence n u g)
   unfolding tellsTrace traceTold traceAnswer
-  attacked-exact n u g = trace-exact refl refl (λ s a. read-kind s (a .reads .reads)) (λ s reads. running.attacked-exact s (read-rules-sized policy reads) (read-goals-sized policy reads) evidence n u g)
+  attacked-exact n u g = trace-exact refl refl (λ s a. read-kind s (a .reads .reads)) (λ s reads. running.attacked-exact s (read-sized policy reads) evidence n u g)
 
   -- BROKEN with a number exactly when the evidence is read as a trace and the step with that number is the first that is none.
   pub broken-first : (n : ℕ) → answerOf policy evidence ≡ Answer.Broken n ↔ TraceTexts policy (λ s. Broken s evidence n)
   unfolding tellsTrace traceTold traceAnswer
-  broken-first n = trace-exact refl refl (λ s b. read-kind s (b .reads .reads)) (λ s reads. running.broken-first s (read-rules-sized policy reads) (read-goals-sized policy reads) evidence n)
+  broken-first n = trace-exact refl refl (λ s b. read-kind s (b .reads .reads)) (λ s reads. running.broken-first s (read-sized policy reads) evidence n)
 
   -- SHORT with a number exactly when the evidence is read as a trace of that many steps, a run that does not end bad.
   pub short-exact : (n : ℕ) → answerOf policy evidence ≡ Answer.Short n ↔ TraceTexts policy (λ s. Short s evidence n)
   unfolding tellsTrace traceTold traceAnswer
-  short-exact n = trace-exact refl refl (λ s b. read-kind s (b .reads .reads)) (λ s reads. running.short-exact s (read-rules-sized policy reads) (read-goals-sized policy reads) evidence n)
+  short-exact n = trace-exact refl refl (λ s b. read-kind s (b .reads .reads)) (λ s reads. running.short-exact s (read-sized policy reads) evidence n)
 
 -- No policy text has one evidence that earns SAFE and another that earns ATTACKED.
 pub never-both : (policy typing trace : List ℕ) {r a v g p n u h : ℕ} → answerOf policy typing ≡ Answer.Safe r a v g p → answerOf policy trace ≡ Answer.Attacked n u h → ⊥

@@ -26,8 +26,8 @@ use Rattle.arbac.specs.Face.{noRoom, roomFor, toldNumber, toldIn, buffer
 present-first : {P : model.Policy} {σ τ : State} {user : ℕ} → Run P σ τ → Present τ user → Present σ user
 unfolding model.granted model.revoked
 present-first model.stay here = here
-present-first (model.next run (model.assign listed can)) here = present-first run (present-back _ _ _ here)
-present-first (model.next run (model.revoke listed can)) here = present-first run (present-back _ _ _ here)
+present-first (model.next run (model.assign listed can fresh)) here = present-first run (present-back _ _ _ here)
+present-first (model.next run (model.revoke listed can holds)) here = present-first run (present-back _ _ _ here)
 
 pub user-listed : (policy evidence : List ℕ) {answer : Answer} → answer ≡ answerOf policy evidence → UserListed answer
 user-listed policy evidence is = record { below = λ steps user goal attacked. go steps user goal (sym is ∙ attacked) }

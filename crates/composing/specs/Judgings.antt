@@ -6,6 +6,7 @@ use mathlib.Core.Path.{_≡_, refl, ap, subst}
 use lib.ListN.{length}
 use Rattle.tables.specs.declared.Name.{Name}
 use Rattle.model.specs.declared.Typing.{Typing as Table}
+use Rattle.model.specs.Sized.{SizedPolicy}
 use Rattle.model.specs.Typing.{closure, RulesPass, Accepted}
 use Rattle.model.specs.Meaning.{meaning}
 use Rattle.rules.specs.Exact.{Laid}
@@ -15,7 +16,7 @@ use Rattle.typings.specs.TypingText.{Typed, readTyping, tableOf}
 use Rattle.judging.specs.declared.Part.{Part}
 use Rattle.judging.specs.declared.TypingVerdict.{TypingVerdict}
 use Rattle.judging.specs.Verdict.{typingVerdict, rulesVerdict}
-use Rattle.judging.specs.Exact.{SizedPolicy, FirstRule, FirstFailure, typing-accepted, rules-accepted, unproved-first, rules-first}
+use Rattle.judging.specs.Exact.{FirstRule, FirstFailure, typing-accepted, rules-accepted, unproved-first, rules-first}
 use Rattle.verdicts.specs.PolicySized.{read-sized}
 use Rattle.verdicts.specs.Verdicts.{texts-laid}
 use Rattle.summing.specs.Outcome.{Outcome, leaves}
@@ -65,18 +66,18 @@ module _ {verdict : TypingVerdict} {Passes : Type 0} {Fails : Part → ℕ → T
   failed which {number} {part} next fail = ap (λ (v : TypingVerdict). whenAccepted which v next) (judging .fails part number .1 fail)
 
 -- the verdict of a typing on a policy, and on its rules alone
-whole : {s : Said} {t : Table} → SizedPolicy s → Laid t (length (s .roles)) → Judging (typingVerdict s t) (OnPolicy s t) (FailsOnPolicy s t)
-whole sized laid = record { passes = typing-accepted sized laid; fails = unproved-first sized laid }
+whole : (s : Said) {t : Table} → SizedPolicy (policyOf s) → Laid t (length (s .roles)) → Judging (typingVerdict s t) (OnPolicy s t) (FailsOnPolicy s t)
+whole s sized laid = record { passes = typing-accepted s sized laid; fails = unproved-first s sized laid }
 
-rules : {s : Said} {t : Table} → SizedPolicy s → Laid t (length (s .roles)) → Judging (rulesVerdict s t) (OnRules s t) (FailsOnRules s t)
-rules sized laid = record { passes = rules-accepted sized laid; fails = rules-first sized laid }
+rules : (s : Said) {t : Table} → SizedPolicy (policyOf s) → Laid t (length (s .roles)) → Judging (rulesVerdict s t) (OnRules s t) (FailsOnRules s t)
+rules s sized laid = record { passes = rules-accepted s sized laid; fails = rules-first s sized laid }
 
 module _ (policy typing : List ℕ) {s : Said} {t : Typed} (reads : readPolicy policy ≡ read s) (over : readTyping (s .roles) typing ≡ read t) where
   -- A typing that is read over a policy is judged exactly on it,
   pub on-own : Judging (typingVerdict s (tableOf t)) (OnPolicy s (tableOf t)) (FailsOnPolicy s (tableOf t))
-  on-own = whole (read-sized policy reads) (texts-laid policy typing reads over)
+  on-own = whole s (read-sized policy reads) (texts-laid policy typing reads over)
 
   -- and on the rules of another over the same roles.
   pub on-other : (other : List ℕ) {s′ : Said} → readPolicy other ≡ read s′ → s .roles ≡ s′ .roles
       → Judging (rulesVerdict s′ (tableOf t)) (OnRules s′ (tableOf t)) (FailsOnRules s′ (tableOf t))
-  on-other other other-reads same = rules (read-sized other other-reads) (subst (λ (names : List Name). Laid (tableOf t) (length names)) same (texts-laid policy typing reads over))
+  on-other other {s′} other-reads same = rules s′ (read-sized other other-reads) (subst (λ (names : List Name). Laid (tableOf t) (length names)) same (texts-laid policy typing reads over))

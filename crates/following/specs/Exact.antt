@@ -5,16 +5,17 @@ use mathlib.Core.Bool.{Bool, true, false, false≢true}
 use mathlib.Core.List.{List, [], _∷_, _++_}
 use mathlib.Core.Logic.{_↔_}
 use mathlib.Core.Path.{_≡_, refl, sym, ap, subst, _∙_}
-use Rattle.roles.specs.Sets.{emptySet}
 use Rattle.model.specs.declared.Assign.{Assign}
 use Rattle.model.specs.declared.Revoke.{Revoke}
-use Rattle.model.specs.Policy.{Policy, State, granted, revoked, Run}
+use Rattle.model.specs.Policy.{Policy, noAssign, noRevoke, State, granted, revoked, Runs, Run}
 use Rattle.model.specs.Policy as model
+use Rattle.model.specs.Sized.{SizedPolicy}
+use Rattle.model.specs.States.{runs-on}
 use Rattle.steps.specs.declared.Step.{Step}
 use Rattle.steps.specs.Places.{at-inside, at-stands, stands-at, at-listed, listed-at}
 use Rattle.steps.specs.Traces.{assignAt, revokeAt, possible, after, broken, ran, later, runOf}
 use Rattle.steps.specs.Runs.{ran-same, broken-ran, later-ran, run-on, run-off}
-use Rattle.steps.specs.Exact.{SizedRules, BrokenAt, assign-possible, revoke-possible, broken-first}
+use Rattle.steps.specs.Exact.{BrokenAt, assign-possible, revoke-possible, broken-first}
 use Rattle.following.specs.Follows.{Use, Follows, Breaks}
 
 -- ---- a step
@@ -22,70 +23,70 @@ use Rattle.following.specs.Follows.{Use, Follows, Breaks}
 module _ {P : Policy} where
   -- A use is a step of the model,
   pub use-step : {σ τ : State} {step : Step} → Use P σ step τ → model.Step P σ τ
-  use-step (Use.assign at can) = model.Step.assign (at-listed at) can
-  use-step (Use.revoke at can) = model.Step.revoke (at-listed at) can
+  use-step (Use.assign at can fresh) = model.Step.assign (at-listed at) can fresh
+  use-step (Use.revoke at can holds) = model.Step.revoke (at-listed at) can holds
 
   -- and every step of the model is one.
   pub step-use : {σ τ : State} → model.Step P σ τ → (step : Step) × Use P σ step τ
-  step-use (model.Step.assign {rule = rule} {actor = actor} {user = user} listed can) =
+  step-use (model.Step.assign {rule = rule} {actor = actor} {user = user} listed can fresh) =
       let (place, at) = listed-at listed in
-      (Step.Assign actor place user, Use.assign at can)
-  step-use (model.Step.revoke {rule = rule} {actor = actor} {user = user} listed can) =
+      (Step.Assign actor place user, Use.assign at can fresh)
+  step-use (model.Step.revoke {rule = rule} {actor = actor} {user = user} listed can holds) =
       let (place, at) = listed-at listed in
-      (Step.Revoke actor place user, Use.revoke at can)
+      (Step.Revoke actor place user, Use.revoke at can holds)
 
   -- a possible step is a use that leads to the state after it
-  possible-use : SizedRules (P .assigns) → (σ : State) (step : Step) → possible (P .assigns) (P .revokes) σ step ≡ true → Use P σ step (after (P .assigns) (P .revokes) σ step)
+  possible-use : SizedPolicy P → (σ : State) (step : Step) → possible P σ step ≡ true → Use P σ step (after P σ step)
   unfolding assignAt revokeAt after
   possible-use sizes σ (Step.Assign actor place user) e =
-      let (inside, can) = assign-possible (P .assigns) (P .revokes) σ actor place user sizes .0 e in
-      Use.assign (stands-at _ (P .assigns) place inside) can
+      let (inside, (can, fresh)) = assign-possible P σ actor place user sizes .0 e in
+      Use.assign (stands-at _ (P .assigns) place inside) can fresh
   possible-use sizes σ (Step.Revoke actor place user) e =
-      let (inside, can) = revoke-possible (P .assigns) (P .revokes) σ actor place user .0 e in
-      Use.revoke (stands-at _ (P .revokes) place inside) can
+      let (inside, (can, holds)) = revoke-possible P σ actor place user .0 e in
+      Use.revoke (stands-at _ (P .revokes) place inside) can holds
 
   -- and a use is possible, and leads there
-  use-possible : SizedRules (P .assigns) → {σ τ : State} {step : Step} → Use P σ step τ → (possible (P .assigns) (P .revokes) σ step ≡ true) × (after (P .assigns) (P .revokes) σ step ≡ τ)
+  use-possible : SizedPolicy P → {σ τ : State} {step : Step} → Use P σ step τ → (possible P σ step ≡ true) × (after P σ step ≡ τ)
   unfolding assignAt revokeAt after
-  use-possible sizes {σ} (Use.assign {actor = actor} {place = place} {user = user} at can) =
-      let same = at-stands (record { admin = 0; positive = emptySet; negative = emptySet; target = 0 }) at in
-      (assign-possible (P .assigns) (P .revokes) σ actor place user sizes .1 (at-inside at, rw same can), ap (λ (r : Assign). granted σ user (r .target)) same)
-  use-possible sizes {σ} (Use.revoke {actor = actor} {place = place} {user = user} at can) =
-      let same = at-stands (record { admin = 0; target = 0 }) at in
-      (revoke-possible (P .assigns) (P .revokes) σ actor place user .1 (at-inside at, rw same can), ap (λ (r : Revoke). revoked σ user (r .target)) same)
+  use-possible sizes {σ} (Use.assign {actor = actor} {place = place} {user = user} at can fresh) =
+      let same = at-stands noAssign at in
+      (assign-possible P σ actor place user sizes .1 (at-inside at, (rw same can, rw same fresh)), ap (λ (r : Assign). granted σ user (r .target)) same)
+  use-possible sizes {σ} (Use.revoke {actor = actor} {place = place} {user = user} at can holds) =
+      let same = at-stands noRevoke at in
+      (revoke-possible P σ actor place user .1 (at-inside at, (rw same can, rw same holds)), ap (λ (r : Revoke). revoked σ user (r .target)) same)
 
 -- ---- steps that follow
 
-module _ {P : Policy} (sizes : SizedRules (P .assigns)) where
-  ran-follows : (σ : State) {τ : State} (steps : List Step) → runOf (P .assigns) (P .revokes) σ steps ≡ ran τ → Follows P σ steps τ
+module _ {P : Policy} (sizes : SizedPolicy P) where
+  ran-follows : (σ : State) {τ : State} (steps : List Step) → runOf P σ steps ≡ ran τ → Follows P σ steps τ
   unfolding runOf
   ran-follows σ [] e = subst (Follows P σ []) (ran-same e) Follows.none
-  ran-follows σ {τ} (step ∷ steps) e = go (possible (P .assigns) (P .revokes) σ step) refl (ran-follows (after (P .assigns) (P .revokes) σ step) steps)
+  ran-follows σ {τ} (step ∷ steps) e = go (possible P σ step) refl (ran-follows (after P σ step) steps)
     where
-      go : (b : Bool) → possible (P .assigns) (P .revokes) σ step ≡ b
-          → (runOf (P .assigns) (P .revokes) (after (P .assigns) (P .revokes) σ step) steps ≡ ran τ → Follows P (after (P .assigns) (P .revokes) σ step) steps τ) → Follows P σ (step ∷ steps) τ
-      go true h rest = Follows.next (possible-use sizes σ step h) (rest (later-ran _ (sym (run-on (P .assigns) (P .revokes) σ step steps h) ∙ e)))
-      go false h rest = absurd (broken-ran (sym (run-off (P .assigns) (P .revokes) σ step steps h) ∙ e))
+      go : (b : Bool) → possible P σ step ≡ b
+          → (runOf P (after P σ step) steps ≡ ran τ → Follows P (after P σ step) steps τ) → Follows P σ (step ∷ steps) τ
+      go true h rest = Follows.next (possible-use sizes σ step h) (rest (later-ran _ (sym (run-on P σ step steps h) ∙ e)))
+      go false h rest = absurd (broken-ran (sym (run-off P σ step steps h) ∙ e))
 
-  follows-ran : {σ τ : State} {steps : List Step} → Follows P σ steps τ → runOf (P .assigns) (P .revokes) σ steps ≡ ran τ
+  follows-ran : {σ τ : State} {steps : List Step} → Follows P σ steps τ → runOf P σ steps ≡ ran τ
   unfolding runOf later
   follows-ran Follows.none = refl
   follows-ran {σ} (Follows.next {step = step} {steps = steps} used rest) =
       let (is-possible, leads) = use-possible sizes used in
-      run-on (P .assigns) (P .revokes) σ step steps is-possible ∙ ap later (ap (λ (υ : State). runOf (P .assigns) (P .revokes) υ steps) leads ∙ follows-ran rest)
+      run-on P σ step steps is-possible ∙ ap later (ap (λ (υ : State). runOf P υ steps) leads ∙ follows-ran rest)
 
   -- Going through the steps ends in a state exactly when they follow to it.
-  pub follows-exact : (σ τ : State) (steps : List Step) → runOf (P .assigns) (P .revokes) σ steps ≡ ran τ ↔ Follows P σ steps τ
+  pub follows-exact : (σ τ : State) (steps : List Step) → runOf P σ steps ≡ ran τ ↔ Follows P σ steps τ
   follows-exact σ τ steps = (ran-follows σ steps, follows-ran)
 
   -- It breaks at a number exactly when the step line with that number is the first that is no step.
-  pub breaks-exact : (σ : State) (steps : List Step) (number : ℕ) → runOf (P .assigns) (P .revokes) σ steps ≡ broken number ↔ Breaks P σ steps number
+  pub breaks-exact : (σ : State) (steps : List Step) (number : ℕ) → runOf P σ steps ≡ broken number ↔ Breaks P σ steps number
   breaks-exact σ steps number = (λ e. told (exact .0 e), λ breaks. exact .1 (given breaks))
     where
-      exact : runOf (P .assigns) (P .revokes) σ steps ≡ broken number ↔ BrokenAt (P .assigns) (P .revokes) σ steps number
-      exact = broken-first (P .assigns) (P .revokes) σ steps number
+      exact : runOf P σ steps ≡ broken number ↔ BrokenAt P σ steps number
+      exact = broken-first P σ steps number
 
-      told : BrokenAt (P .assigns) (P .revokes) σ steps number → Breaks P σ steps number
+      told : BrokenAt P σ steps number → Breaks P σ steps number
       told at = record {
         earlier = at .earlier;
         step = at .step;
@@ -97,7 +98,7 @@ module _ {P : Policy} (sizes : SizedRules (P .assigns)) where
         no-use = λ used. false≢true (sym (at .impossible) ∙ use-possible sizes used .0);
       }
 
-      given : Breaks P σ steps number → BrokenAt (P .assigns) (P .revokes) σ steps number
+      given : Breaks P σ steps number → BrokenAt P σ steps number
       given breaks = record {
         earlier = breaks .earlier;
         step = breaks .step;
@@ -106,24 +107,20 @@ module _ {P : Policy} (sizes : SizedRules (P .assigns)) where
         numbered = breaks .numbered;
         state = breaks .state;
         runs = follows-ran (breaks .follows);
-        impossible = never (possible (P .assigns) (P .revokes) (breaks .state) (breaks .step)) refl;
+        impossible = never (possible P (breaks .state) (breaks .step)) refl;
       }
         where
-          never : (b : Bool) → possible (P .assigns) (P .revokes) (breaks .state) (breaks .step) ≡ b → b ≡ false
+          never : (b : Bool) → possible P (breaks .state) (breaks .step) ≡ b → b ≡ false
           never true e = absurd (breaks .no-use (possible-use sizes (breaks .state) (breaks .step) e))
           never false e = refl
 
 -- ---- the runs of a policy
 
 module _ {P : Policy} where
-  -- steps from the end of a run go on with it
-  run-onward : {σ τ υ : State} {steps : List Step} → Run P σ τ → Follows P τ steps υ → Run P σ υ
-  run-onward run Follows.none = run
-  run-onward run (Follows.next used rest) = run-onward (Run.next run (use-step used)) rest
-
   -- Steps that follow are a run of the policy,
   pub follows-run : {σ τ : State} {steps : List Step} → Follows P σ steps τ → Run P σ τ
-  follows-run follows = run-onward Run.stay follows
+  follows-run Follows.none = Runs.stay
+  follows-run (Follows.next used rest) = runs-on (Runs.next Runs.stay (use-step used)) (follows-run rest)
 
   -- steps that follow go on with one more
   follows-more : {σ τ υ : State} {steps : List Step} {step : Step} → Follows P σ steps τ → Use P τ step υ → Follows P σ (steps ++ (step ∷ [])) υ
@@ -132,8 +129,8 @@ module _ {P : Policy} where
 
   -- and for every run of the policy there are steps that follow so.
   pub run-follows : {σ τ : State} → Run P σ τ → (steps : List Step) × Follows P σ steps τ
-  run-follows Run.stay = ([], Follows.none)
-  run-follows (Run.next run step) =
+  run-follows Runs.stay = ([], Follows.none)
+  run-follows (Runs.next run step) =
       let (steps, follows) = run-follows run in
       let (line, used) = step-use step in
       (steps ++ (line ∷ []), follows-more follows used)

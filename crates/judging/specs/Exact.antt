@@ -6,17 +6,17 @@ use mathlib.Core.Logic.{_↔_, _⊎_, inl, inr}
 use mathlib.Core.Path.{_≡_, refl, subst}
 use lib.ListN.{length}
 use Rattle.roles.specs.declared.RoleSet.{RoleSet}
-use Rattle.roles.specs.Members.{Sized}
 use Rattle.model.specs.declared.Typing.{Typing as Table}
 use Rattle.model.specs.declared.Assign.{Assign}
 use Rattle.model.specs.declared.Revoke.{Revoke}
 use Rattle.model.specs.declared.Person.{Person}
 use Rattle.model.specs.Policy.{Policy, State, nobody, person}
+use Rattle.model.specs.Sized.{SizedPolicy}
 use Rattle.model.specs.Typing.{Typing, closure, AssignPasses, RevokePasses, WellTyped, HoldingsPass, GoalPasses, RulesPass, Accepted}
 use Rattle.model.specs.Meaning.{meaning}
 use Rattle.sheets.specs.Turned.{turnedOf}
 use Rattle.rules.specs.Tests.{personPasses, assignPasses, revokePasses, goalPasses}
-use Rattle.rules.specs.Exact.{Laid, SizedRule, person-exact, assign-exact, revoke-exact, goal-exact}
+use Rattle.rules.specs.Exact.{Laid, person-exact, assign-exact, revoke-exact, goal-exact}
 use Rattle.reading.specs.Policy.{Said, policyOf}
 use Rattle.steps.specs.Places.{at-inside, at-stands, stands-at, at-listed, listed-at}
 use Rattle.judging.specs.declared.Part.{Part}
@@ -24,11 +24,6 @@ use Rattle.judging.specs.declared.TypingVerdict.{TypingVerdict}
 use Rattle.judging.specs.Verdict.{subjectOf, firstHolding, firstAssign, firstRevoke, firstGoal, failingPart, andThen, rulesSaid, allSaid, judgedRules, judgedTyping, rulesVerdict, typingVerdict}
 use Rattle.judging.specs.Failing.{FirstBad}
 use Rattle.judging.specs.Order.{both-accepted, one-fails, part-accepted, part-fails}
-
--- The sets of a policy's assign rules and goals are words of 64 bits.
-pub record SizedPolicy (s : Said) : Type 0 where
-  pub assigns : {rule : Assign} → Listed rule (s .assigns) → SizedRule rule
-  pub goals : {goal : RoleSet} → Listed goal (s .goals) → Sized goal
 
 -- The first rule that fails: an assign rule, or a revoke rule where all assign rules pass.
 pub data FirstRule (Γ : Typing) (P : Policy) : Part → ℕ → Type 0 where
@@ -50,19 +45,21 @@ holdings-each Γ σ = (
   λ each. record { user = λ {user} here. each (person σ user) (at-listed (stands-at nobody σ user (here .listed))) },
 )
 
-module _ {s : Said} {t : Table} (sized : SizedPolicy s) (laid : Laid t (length (s .roles))) where
+module _ (s : Said) {t : Table} (sized : SizedPolicy (policyOf s)) (laid : Laid t (length (s .roles))) where
   -- ---- each part's test is exact
 
   persons-exact : (p : Person) → Listed p (s .holdings) → personPasses (turnedOf t (length (s .roles))) p ≡ true ↔ WellTyped (meaning t) p
   persons-exact p m = person-exact laid p
 
   assigns-exact : (rule : Assign) → Listed rule (s .assigns) → assignPasses (turnedOf t (length (s .roles))) rule ≡ true ↔ AssignPasses closure (meaning t) rule
+  unfolding policyOf
   assigns-exact rule m = assign-exact laid rule (sized .assigns m)
 
   revokes-exact : (rule : Revoke) → Listed rule (s .revokes) → revokePasses (turnedOf t (length (s .roles))) rule ≡ true ↔ RevokePasses (meaning t) rule
   revokes-exact rule m = revoke-exact (laid .fits) rule
 
   goals-exact : (goal : RoleSet) → Listed goal (s .goals) → goalPasses (turnedOf t (length (s .roles))) goal ≡ true ↔ GoalPasses closure (meaning t) goal
+  unfolding policyOf
   goals-exact goal m = goal-exact laid goal (sized .goals m)
 
   -- ---- accepted

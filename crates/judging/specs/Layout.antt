@@ -8,8 +8,8 @@ use native.Mathlib.Omega.{arith}
 use Rattle.roles.specs.Sets.{emptySet}
 use Rattle.model.specs.declared.Typing.{Typing as Table}
 use Rattle.model.specs.declared.Person.{Person}
-use Rattle.model.specs.Policy.{Policy, nobody}
-use Rattle.reading.specs.Policy.{Said, countsOf, noAssign, noRevoke, policyOf}
+use Rattle.model.specs.Policy.{Policy, noAssign, noRevoke, nobody}
+use Rattle.reading.specs.Policy.{Said, countsOf, policyOf}
 use Rattle.tables.specs.Padded.{padded}
 use Rattle.reading.specs.Rules.{laidWith, laidOut}
 use Rattle.reading.specs.Sound.{Sound}

@@ -7,6 +7,7 @@ use borrow.Author.Tests.{ltb-true}
 use native.Mathlib.Omega.{arith}
 use lib.Dec.{ltb, eqb}
 use lib.ListN.{length}
+use Rattle.model.specs.Policy.{assigning}
 use Rattle.tables.specs.declared.Name.{Name}
 use Rattle.text.specs.Forms.{bytes, isName, isSet}
 use Rattle.text.specs.Pieces.{split, sameBytes, split-piece}
@@ -67,12 +68,12 @@ goal-judged c roles users set {S} {order} {dash} hS ordered dashed given =
 pub assign-judged : (c : Counts) (roles users : List Name) (admin positive negative target : List ℕ) {A T : NameRead} {P N : SetRead} {first second fault : ℕ} {order : Bool} {answer : PolicyLine}
     → A ≡ nameRead roles admin → P ≡ setRead roles positive → N ≡ setRead roles negative → T ≡ nameRead roles target → first ≡ max (A .fault) (P .fault) → second ≡ max (N .fault) (T .fault)
     → fault ≡ max first second → order ≡ inOrder (c .stage) assignKind
-    → answer ≡ comesTo (order && ltb fault 2) (ltb (c .assigns) 256) (eqb fault 0) (Entry.Assign (record { admin = A .place; positive = P .roles; negative = N .roles; target = T .place }))
+    → answer ≡ comesTo (order && ltb fault 2) (ltb (c .assigns) 256) (eqb fault 0) (Entry.Assign (assigning (A .place) (P .roles) (N .roles) (T .place)))
     → answer ≡ judged c roles users (assign admin positive negative target)
 unfolding judged asked
 assign-judged c roles users admin positive negative target {A} {T} {P} {N} {first} {second} {fault} hA hP hN hT one two worst ordered given =
     given
-    ∙ ap₂ (λ (o : Bool) (f : ℕ). comesTo (o && ltb f 2) (ltb (c .assigns) 256) (eqb f 0) (Entry.Assign (record { admin = A .place; positive = P .roles; negative = N .roles; target = T .place }))) ordered all
+    ∙ ap₂ (λ (o : Bool) (f : ℕ). comesTo (o && ltb f 2) (ltb (c .assigns) 256) (eqb f 0) (Entry.Assign (assigning (A .place) (P .roles) (N .roles) (T .place)))) ordered all
     ∙ by-fault (inOrder (c .stage) assignKind) (ltb (c .assigns) 256) _ _ _ _ (λ f k. same f k)
   where
     left : first ≡ faultOf (isName admin && isSet positive) (isDeclared roles admin && allDeclared roles positive)
@@ -85,14 +86,14 @@ assign-judged c roles users admin positive negative target {A} {T} {P} {N} {firs
     all = worst ∙ ap₂ max left right ∙ worse (isName admin && isSet positive) (isDeclared roles admin && allDeclared roles positive) (isSet negative && isName target) (allDeclared roles negative && isDeclared roles target)
 
     same : (isName admin && isSet positive && (isSet negative && isName target)) ≡ true → (isDeclared roles admin && allDeclared roles positive && (allDeclared roles negative && isDeclared roles target)) ≡ true
-        → Entry.Assign (record { admin = A .place; positive = P .roles; negative = N .roles; target = T .place })
-        ≡ Entry.Assign (record { admin = placed roles admin; positive = rolesOf roles positive; negative = rolesOf roles negative; target = placed roles target })
+        → Entry.Assign (assigning (A .place) (P .roles) (N .roles) (T .place))
+        ≡ Entry.Assign (assigning (placed roles admin) (rolesOf roles positive) (rolesOf roles negative) (placed roles target))
     same f k =
         let forms = and-eq-true-iff (isName admin && isSet positive) (isSet negative && isName target) .0 f in
         let knowns = and-eq-true-iff (isDeclared roles admin && allDeclared roles positive) (allDeclared roles negative && isDeclared roles target) .0 k in
         let plus = roles-read roles positive hP (and-eq-true-iff (isName admin) (isSet positive) .0 (forms .0) .1) (and-eq-true-iff (isDeclared roles admin) (allDeclared roles positive) .0 (knowns .0) .1) in
         let minus = roles-read roles negative hN (and-eq-true-iff (isSet negative) (isName target) .0 (forms .1) .0) (and-eq-true-iff (allDeclared roles negative) (isDeclared roles target) .0 (knowns .1) .0) in
-        λ i. Entry.Assign (record { admin = at-place roles admin hA i; positive = plus i; negative = minus i; target = at-place roles target hT i })
+        λ i. Entry.Assign (assigning (at-place roles admin hA i) (plus i) (minus i) (at-place roles target hT i))
 
 -- ---- a line by its number of fields, from the tabs that a reader finds
 

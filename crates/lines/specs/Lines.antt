@@ -3,6 +3,7 @@ use Prim.Native.Nat.{ℕ}
 use mathlib.Core.Bool.{Bool, true, false, cond, not, _&&_}
 use mathlib.Core.List.{List, [], _∷_}
 use lib.Dec.{leb, ltb, eqb}
+use Rattle.model.specs.Policy.{assigning}
 use Rattle.tables.specs.declared.Name.{Name}
 use Rattle.text.specs.Forms.{bytes, isName, isSet, isLabel}
 use Rattle.tables.specs.Names.{packed}
@@ -115,7 +116,7 @@ asked c roles users (assign admin positive negative target) = record {
   formed = inOrder (c .stage) assignKind && (isName admin && isSet positive && (isSet negative && isName target));
   within = ltb (c .assigns) 256;
   known = isDeclared roles admin && allDeclared roles positive && (allDeclared roles negative && isDeclared roles target);
-  says = Entry.Assign (record { admin = placed roles admin; positive = rolesOf roles positive; negative = rolesOf roles negative; target = placed roles target });
+  says = Entry.Assign (assigning (placed roles admin) (rolesOf roles positive) (rolesOf roles negative) (placed roles target));
 }
 asked c roles users (revoke admin target) = record {
   formed = inOrder (c .stage) revokeKind && (isName admin && isName target);

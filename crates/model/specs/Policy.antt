@@ -40,6 +40,17 @@ joint P Q = record {
   goals = P .goals ++ Q .goals;
 }
 
+-- The assign rule of an administrative role, a positive set, a negative set and a target role.
+abbrev pub assigning : ℕ → RoleSet → RoleSet → ℕ → Assign
+assigning admin positive negative target = record { admin = admin; positive = positive; negative = negative; target = target }
+
+-- What stands for a place past the end of a list of rules: no rule.
+unfoldable pub noAssign : Assign
+noAssign = assigning 0 emptySet emptySet 0
+
+unfoldable pub noRevoke : Revoke
+noRevoke = record { admin = 0; target = 0 }
+
 -- The users in their order, each with clearance and roles. A user is a place in the list.
 abbrev pub State : Type 0
 State = List Person
@@ -65,43 +76,52 @@ pub record HoldsAll (σ : State) (user : ℕ) (roles : RoleSet) : Type 0 where
 pub record HoldsNone (σ : State) (user : ℕ) (roles : RoleSet) : Type 0 where
   pub none : Share roles (person σ user .roles) → ⊥
 
--- An actor who holds the administrative role may give the target role to a user who holds all of the positive set, none of
--- the negative set, and doesn't yet hold the target role. Actor and user may be the same person.
+-- An actor who holds the administrative role can use an assign rule on a user who holds all of the positive set and none of the
+-- negative set. Actor and user may be the same person.
 pub record CanAssign (σ : State) (actor : ℕ) (rule : Assign) (user : ℕ) : Type 0 where
   pub actor-present : Present σ actor
   pub actor-holds : Holds σ actor (rule .admin)
   pub user-present : Present σ user
   pub all : HoldsAll σ user (rule .positive)
   pub none : HoldsNone σ user (rule .negative)
-  pub fresh : Holds σ user (rule .target) → ⊥
 
--- An actor who holds the administrative role may take the target role from a user who holds it.
+-- An actor who holds the administrative role can use a revoke rule on any user.
 pub record CanRevoke (σ : State) (actor : ℕ) (rule : Revoke) (user : ℕ) : Type 0 where
   pub actor-present : Present σ actor
   pub actor-holds : Holds σ actor (rule .admin)
   pub user-present : Present σ user
-  pub user-holds : Holds σ user (rule .target)
 
--- The state in which the user's roles are others, and all else is as it was.
-unfoldable pub holding : State → ℕ → RoleSet → State
-holding σ user roles = set σ user (record { clearance = person σ user .clearance; roles = roles })
+-- The person with other roles, and all else as it was; with one role more; with one role less.
+abbrev pub withRoles : Person → RoleSet → Person
+withRoles p roles = record { clearance = p .clearance; roles = roles }
+
+unfoldable pub withRole : Person → ℕ → Person
+withRole p role = withRoles p (withOf (p .roles) role)
+
+unfoldable pub withoutRole : Person → ℕ → Person
+withoutRole p role = withRoles p (withoutOf (p .roles) role)
 
 -- The user holds one role more; one role less.
 unfoldable pub granted : State → ℕ → ℕ → State
-granted σ user role = holding σ user (withOf (person σ user .roles) role)
+granted σ user role = set σ user (withRole (person σ user) role)
 
 unfoldable pub revoked : State → ℕ → ℕ → State
-revoked σ user role = holding σ user (withoutOf (person σ user .roles) role)
+revoked σ user role = set σ user (withoutRole (person σ user) role)
 
--- One step of a policy: an assign rule or a revoke rule of it is used.
+-- One step of a policy: an assign rule of it gives the target role to a user who doesn't yet hold it; or a revoke rule of it takes
+-- the target role from a user who holds it.
 pub data Step (P : Policy) (σ : State) : State → Type 0 where
-  assign : {rule : Assign} {actor user : ℕ} → Listed rule (P .assigns) → CanAssign σ actor rule user → Step P σ (granted σ user (rule .target))
-  revoke : {rule : Revoke} {actor user : ℕ} → Listed rule (P .revokes) → CanRevoke σ actor rule user → Step P σ (revoked σ user (rule .target))
+  assign : {rule : Assign} {actor user : ℕ} → Listed rule (P .assigns) → CanAssign σ actor rule user → (Holds σ user (rule .target) → ⊥) → Step P σ (granted σ user (rule .target))
+  revoke : {rule : Revoke} {actor user : ℕ} → Listed rule (P .revokes) → CanRevoke σ actor rule user → Holds σ user (rule .target) → Step P σ (revoked σ user (rule .target))
 
--- A run is any finite sequence of steps, the empty one included.
-pub data Run (P : Policy) (σ : State) : State → Type 0 where
-  stay : Run P σ σ
-  next : {τ υ : State} → Run P σ τ → Step P τ υ → Run P σ υ
+-- Any finite sequence of steps of some kind, the empty one included.
+pub data Runs (S : State → State → Type 0) (σ : State) : State → Type 0 where
+  stay : Runs S σ σ
+  next : {τ υ : State} → Runs S σ τ → S τ υ → Runs S σ υ
+
+-- A run is one of the policy's steps.
+abbrev pub Run : Policy → State → State → Type 0
+Run P = Runs (Step P)
 
 -- A state is bad when some L user holds all roles of some goal.
 pub record Bad (goals : List RoleSet) (σ : State) : Type 0 where

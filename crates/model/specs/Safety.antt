@@ -3,29 +3,23 @@ use Prim.Native.Nat.{ℕ}
 use mathlib.Core.Bool.{false≢true}
 use mathlib.Core.Logic.{_⊎_, inl, inr, ⊎-elim}
 use mathlib.Core.Path.{_≡_, sym, subst, _∙_}
+use lib.ListN.{set}
 use Rattle.roles.specs.declared.RoleSet.{RoleSet}
 use Rattle.roles.specs.Sets.{withOf, withoutOf}
 use Rattle.roles.specs.Members.{_∈_, Share, Within, below, empty-none, with-cases, with-old, with-new, without-old, without-gone, without-other}
 use Rattle.model.specs.declared.Assign.{Assign}
 use Rattle.model.specs.declared.Revoke.{Revoke}
 use Rattle.model.specs.declared.Person.{Person}
-use Rattle.model.specs.Policy.{L, _⊑_, Policy, State, person, Present, CanAssign, CanRevoke, holding, granted, revoked, Step, Run, Bad}
+use Rattle.model.specs.Policy.{L, _⊑_, Policy, State, person, Holds, CanAssign, CanRevoke, withRole, withoutRole, granted, revoked, Step, Run, Bad}
 use Rattle.model.specs.Typing.{Typing, Inconsistent, Held, Absent, Closing, closure, UpTo, Suits, HeldFor, AbsentFor, AssignPasses, RevokePasses, WellTyped, HoldingsPass, GoalPasses, RulesPass, AcceptedBy, Accepted}
 use Rattle.model.specs.Closure.{Truthful, closure-truthful}
-use Rattle.model.specs.States.{everyone}
+use Rattle.model.specs.States.{everyone, runs-keep}
 
 -- Nobody who is well typed holds an inconsistent role (source 003, lemma 10).
 holder-consistent : {Γ : Typing} {p : Person} {role : ℕ} → WellTyped Γ p → role ∈ p .roles → Inconsistent Γ role → ⊥
 holder-consistent typed holds bad =
     let both = bad .shared in
     typed .minus holds (record { role = both .role; first = both .second; second = typed .plus holds .every (both .first) })
-
--- A person with one role more, or one role less.
-with-role : Person → ℕ → Person
-with-role p role = record { clearance = p .clearance; roles = withOf (p .roles) role }
-
-without-role : Person → ℕ → Person
-without-role p role = record { clearance = p .clearance; roles = withoutOf (p .roles) role }
 
 -- Where the target suits, and what the closing says is true of the person, the person with the target is well typed.
 module _ {Γ : Typing} {p : Person} {held absent : ℕ → Type 0} {target : ℕ} (typed : WellTyped Γ p)
@@ -49,8 +43,8 @@ module _ {Γ : Typing} {p : Person} {held absent : ℕ → Type 0} {target : ℕ
       go (inl h) = with-old target (truly-held other h)
       go (inr same-other) = subst (λ (r : ℕ). r ∈ withOf (p .roles) target) (same ∙ sym same-other) now
 
-  grant-typed : WellTyped Γ (with-role p target)
-  unfolding with-role
+  grant-typed : WellTyped Γ (withRole p target)
+  unfolding withRole
   grant-typed = record {
     label = λ {role} now. ⊎-elim (typed .label) (λ same. subst (λ (r : ℕ). Γ .label r ⊑ p .clearance) (sym same) (label-kept (fits .label))) (with-cases (p .roles) target now);
     minus = λ {role} now shared. minus-kept (with-cases (p .roles) target now) (shared .first) (with-cases (p .roles) target (shared .second));
@@ -58,8 +52,8 @@ module _ {Γ : Typing} {p : Person} {held absent : ℕ → Type 0} {target : ℕ
   }
 
 -- A role that no other role needs can be taken away.
-revoke-typed : {Γ : Typing} {p : Person} {target : ℕ} → WellTyped Γ p → ((role : ℕ) → target ∈ Γ .plus role → role ≡ target) → WellTyped Γ (without-role p target)
-unfolding without-role
+revoke-typed : {Γ : Typing} {p : Person} {target : ℕ} → WellTyped Γ p → ((role : ℕ) → target ∈ Γ .plus role → role ≡ target) → WellTyped Γ (withoutRole p target)
+unfolding withoutRole
 revoke-typed {Γ} {p} {target} typed unneeded = record {
   label = λ now. typed .label (without-old (p .roles) target now);
   minus = λ now shared.
@@ -72,15 +66,11 @@ revoke-typed {Γ} {p} {target} typed unneeded = record {
   };
 }
 
--- The holdings stay well typed when the one person whose roles change is well typed afterwards.
-kept : {Γ : Typing} {σ : State} {user : ℕ} {roles : RoleSet} → HoldingsPass Γ σ → Present σ user → WellTyped Γ (record { clearance = person σ user .clearance; roles = roles }) → HoldingsPass Γ (holding σ user roles)
-kept {Γ} {σ} {user} {roles} typed here new = record { user = λ {user = other} there. everyone (WellTyped Γ) σ user roles here (λ u h. typed .user h) new other there }
-
 -- Subject reduction: each step of a policy whose rules pass keeps the holdings well typed, with any truthful closing.
 module _ {C : Closing} (truthful : Truthful C) {Γ : Typing} where
-  assign-keeps : {σ : State} {actor user : ℕ} {rule : Assign} → AssignPasses C Γ rule → HoldingsPass Γ σ → CanAssign σ actor rule user → HoldingsPass Γ (granted σ user (rule .target))
-  unfolding granted with-role
-  assign-keeps {σ} {actor} {user} {rule} passes typed can = kept typed (can .user-present) (go passes)
+  -- the one person whom a step changes stays well typed
+  assign-keeps : {σ : State} {actor user : ℕ} {rule : Assign} → AssignPasses C Γ rule → HoldingsPass Γ σ → CanAssign σ actor rule user → (Holds σ user (rule .target) → ⊥) → WellTyped Γ (withRole (person σ user) (rule .target))
+  assign-keeps {σ} {actor} {user} {rule} passes typed can fresh = go passes
     where
       self : WellTyped Γ (person σ user)
       self = typed .user (can .user-present)
@@ -88,7 +78,7 @@ module _ {C : Closing} (truthful : Truthful C) {Γ : Typing} where
       lacks : Share (withOf (rule .negative) (rule .target)) (person σ user .roles) → ⊥
       lacks shared =
           ⊎-elim (λ m. can .none .none (record { role = shared .role; first = m; second = shared .second }))
-          (λ same. can .fresh (record { held = subst (λ (r : ℕ). r ∈ person σ user .roles) same (shared .second) })) (with-cases (rule .negative) (rule .target) (shared .first))
+          (λ same. fresh (record { held = subst (λ (r : ℕ). r ∈ person σ user .roles) same (shared .second) })) (with-cases (rule .negative) (rule .target) (shared .first))
 
       truly-held : (role : ℕ) → HeldFor C Γ rule role → role ∈ person σ user .roles
       truly-held role h = truthful .held self (can .all .all) lacks h
@@ -96,26 +86,26 @@ module _ {C : Closing} (truthful : Truthful C) {Γ : Typing} where
       truly-absent : (role : ℕ) → AbsentFor C Γ rule role → role ∈ person σ user .roles → ⊥
       truly-absent role h = truthful .absent self (can .all .all) lacks h
 
-      go : AssignPasses C Γ rule → WellTyped Γ (with-role (person σ user) (rule .target))
+      go : AssignPasses C Γ rule → WellTyped Γ (withRole (person σ user) (rule .target))
       go (AssignPasses.no-actor bad) = absurd (holder-consistent (typed .user (can .actor-present)) (can .actor-holds .held) bad)
       go (AssignPasses.no-user clash) = absurd (truly-absent (clash .role) (clash .is-absent) (truly-held (clash .role) (clash .is-held)))
       go (AssignPasses.suits fits) = grant-typed self truly-held truly-absent fits
 
-  revoke-keeps : {σ : State} {actor user : ℕ} {rule : Revoke} → RevokePasses Γ rule → HoldingsPass Γ σ → CanRevoke σ actor rule user → HoldingsPass Γ (revoked σ user (rule .target))
-  unfolding revoked without-role
-  revoke-keeps {σ} {actor} {user} {rule} passes typed can = kept typed (can .user-present) (go passes)
-    where
-      go : RevokePasses Γ rule → WellTyped Γ (without-role (person σ user) (rule .target))
-      go (RevokePasses.no-actor bad) = absurd (holder-consistent (typed .user (can .actor-present)) (can .actor-holds .held) bad)
-      go (RevokePasses.unneeded free) = revoke-typed (typed .user (can .user-present)) free
+  revoke-keeps : {σ : State} {actor user : ℕ} {rule : Revoke} → RevokePasses Γ rule → HoldingsPass Γ σ → CanRevoke σ actor rule user → WellTyped Γ (withoutRole (person σ user) (rule .target))
+  revoke-keeps (RevokePasses.no-actor bad) typed can = absurd (holder-consistent (typed .user (can .actor-present)) (can .actor-holds .held) bad)
+  revoke-keeps (RevokePasses.unneeded free) typed can = revoke-typed (typed .user (can .user-present)) free
+
+  -- and so does everyone
+  kept : {σ : State} (user : ℕ) {p : Person} → HoldingsPass Γ σ → WellTyped Γ p → HoldingsPass Γ (set σ user p)
+  kept {σ} user typed new = record { user = λ {user = other} there. everyone (WellTyped Γ) σ user (λ u here. typed .user here) new other there }
 
   step-keeps : {P : Policy} {σ τ : State} → RulesPass C Γ P → HoldingsPass Γ σ → Step P σ τ → HoldingsPass Γ τ
-  step-keeps rules typed (Step.assign listed can) = assign-keeps (rules .assigns listed) typed can
-  step-keeps rules typed (Step.revoke listed can) = revoke-keeps (rules .revokes listed) typed can
+  unfolding granted revoked
+  step-keeps rules typed (Step.assign {user = user} listed can fresh) = kept user typed (assign-keeps (rules .assigns listed) typed can fresh)
+  step-keeps rules typed (Step.revoke {user = user} listed can held) = kept user typed (revoke-keeps (rules .revokes listed) typed can)
 
   pub run-keeps : {P : Policy} {σ τ : State} → RulesPass C Γ P → HoldingsPass Γ σ → Run P σ τ → HoldingsPass Γ τ
-  run-keeps rules typed Run.stay = typed
-  run-keeps rules typed (Run.next run step) = step-keeps rules (run-keeps rules typed run) step
+  run-keeps rules typed run = runs-keep (HoldingsPass Γ) (λ σ τ. step-keeps rules) typed run
 
   -- A goal that passes is held whole by no well-typed L person.
   goal-safe : {p : Person} {goal : RoleSet} → GoalPasses C Γ goal → WellTyped Γ p → p .clearance ≡ L → Within goal (p .roles) → ⊥

@@ -10,7 +10,7 @@ use Rattle.roles.specs.Sets.{bit, hasRole, emptySet, singleOf, unionOf, meetOf,
 use Rattle.roles.specs.Members.{_∈_, empty-none, single-only, single-own, with-old, with-new, share-none, includes-within}
 use Rattle.model.specs.declared.Assign.{Assign}
 use Rattle.model.specs.declared.Person.{Person}
-use Rattle.model.specs.Policy.{Label, L, H, Policy, State, nobody, person, Present, CanAssign, holding, granted, Step, Run}
+use Rattle.model.specs.Policy.{Label, L, H, Policy, assigning, State, nobody, person, Present, CanAssign, withRole, granted, Step, Runs}
 use Rattle.model.specs.Typing.{Typing, Held, Absent, closure, UpTo, AssignPasses, WellTyped, GoalPasses, Accepted}
 use Rattle.model.specs.Safety.{Attack}
 
@@ -25,7 +25,7 @@ buy = 2
 
 -- a rule of the desk: adm gives a role to who has none of the negative set
 abbrev giving : RoleSet → ℕ → Assign
-giving negative target = record { admin = adm; positive = emptySet; negative = negative; target = target }
+giving = assigning adm emptySet
 
 abbrev goal : RoleSet
 goal = withOf (singleOf pay) buy
@@ -129,10 +129,11 @@ desk-accepted = record {
 
 -- ann gives bob buy, then pay
 pub loose-attack : Attack loose staff
-unfolding loose staff person nobody granted holding bit hasRole emptySet singleOf unionOf meetOf withOf sameSet sharesRole includes
+unfolding loose staff person nobody granted withRole bit hasRole emptySet singleOf unionOf meetOf withOf sameSet sharesRole includes
 loose-attack = record {
   last = granted (granted staff 1 buy) 1 pay;
-  run = Run.next (Run.next Run.stay (Step.assign {rule = giving (singleOf pay) buy} {actor = 0} {user = 1} (later (first refl)) can-buy)) (Step.assign {rule = giving emptySet pay} {actor = 0} {user = 1} (first refl) can-pay);
+  run = Runs.next (Runs.next Runs.stay (Step.assign {rule = giving (singleOf pay) buy} {actor = 0} {user = 1} (later (first refl)) can-buy (λ h. false≢true (h .held .found))))
+      (Step.assign {rule = giving emptySet pay} {actor = 0} {user = 1} (first refl) can-pay (λ h. false≢true (h .held .found)));
   bad = record {
     user = 1;
     present = record { listed = lit< tt };
@@ -150,7 +151,6 @@ loose-attack = record {
       user-present = record { listed = lit< tt };
       all = record { all = includes-within emptySet emptySet refl };
       none = record { none = share-none (singleOf pay) emptySet refl };
-      fresh = λ h. false≢true (h .held .found);
     }
 
     can-pay : CanAssign (granted staff 1 buy) 0 (giving emptySet pay) 1
@@ -160,5 +160,4 @@ loose-attack = record {
       user-present = record { listed = lit< tt };
       all = record { all = includes-within emptySet _ refl };
       none = record { none = share-none emptySet _ refl };
-      fresh = λ h. false≢true (h .held .found);
     }

@@ -6,7 +6,7 @@ use mathlib.Core.Path.{_≡_, refl, sym, ap, subst, _∙_}
 use lib.Dec.{eqb}
 use lib.ListN.{length}
 use Rattle.walking.specs.Texts.{Reading, read, refused}
-use Rattle.reading.specs.Policy.{Said, countsOf}
+use Rattle.reading.specs.Policy.{Said, countsOf, policyOf}
 use Rattle.typings.specs.Kind.{isTyping}
 use Rattle.typings.specs.TypingText.{tableOf}
 use Rattle.traces.specs.TraceText.{Traced, readTrace}
@@ -45,7 +45,7 @@ module _ (policy evidence : List ℕ) where
   trace-refusal : (s : Said) (r : Reading Traced) → told r ≡ refusalIn (traceAnswer (readVerdict s r))
   unfolding told refusalIn traceAnswer readVerdict ranVerdict lastVerdict
   trace-refusal s (refused number line) = refl
-  trace-refusal s (read t) = ranned (runOf (s .assigns) (s .revokes) (s .holdings) (t .steps))
+  trace-refusal s (read t) = ranned (runOf (policyOf s) (s .holdings) (t .steps))
     where
       found : (b : Bool) (f : Found) → record { number = 0; line = 0 } ≡ refusalIn (traceAnswer (cond b (TraceVerdict.Short (length (t .steps))) (TraceVerdict.Attacked (length (t .steps)) (f .user - 1) (f .goal))))
       found true f = refl

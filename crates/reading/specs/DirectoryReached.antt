@@ -8,7 +8,7 @@ use native.Mathlib.Omega.{arith}
 use Rattle.roles.specs.declared.RoleSet.{RoleSet}
 use Rattle.roles.specs.Sets.{emptySet, hasRole, withOf}
 use Rattle.model.specs.declared.Person.{Person}
-use Rattle.model.specs.Policy.{nobody, person, holding, granted}
+use Rattle.model.specs.Policy.{nobody, person, withRole, granted}
 use Rattle.tables.specs.declared.Name.{Name}
 use Rattle.tables.specs.Names.{wordsOf, rows, stored}
 use Rattle.text.specs.Pieces.{part, Sought}
@@ -212,7 +212,7 @@ module _ {text : List ℕ} {at number : ℕ} {d : Directory} {c : Counts} (r : R
   pub laid-has : (user role : ℕ) {held : Person} {more : RoleSet} → user < c .users → held ≡ person (r .said .holdings) user → more ≡ withOf (held .roles) role
       → record { refusal = d .refusal; line = d .line; at = d .at; roles = d .roles; users = d .users; persons = set (d .persons) user (record { clearance = held .clearance; roles = more }); counts = d .counts }
       ≡ laidWith 0 0 (countsOf nothing) (added (r .said) (Entry.Has user role))
-  unfolding laidWith added noted granted holding
+  unfolding laidWith added noted granted withRole
   laid-has user role {held} here is with-it = λ i. record {
     refusal = r .laid i .refusal;
     line = r .laid i .line;

@@ -49,23 +49,23 @@ policyOf s = record { assigns = s .assigns; revokes = s .revokes; goals = s .goa
 abbrev pub atStage : ℕ → Said → Said
 atStage kind s = record { stage = kind; roles = s .roles; users = s .users; holdings = s .holdings; assigns = s .assigns; revokes = s .revokes; goals = s .goals }
 
-abbrev pub withRoles : List Name → Said → Said
-withRoles roles s = record { stage = s .stage; roles = roles; users = s .users; holdings = s .holdings; assigns = s .assigns; revokes = s .revokes; goals = s .goals }
+abbrev pub sayRoles : List Name → Said → Said
+sayRoles roles s = record { stage = s .stage; roles = roles; users = s .users; holdings = s .holdings; assigns = s .assigns; revokes = s .revokes; goals = s .goals }
 
-abbrev pub withUsers : List Name → Said → Said
-withUsers users s = record { stage = s .stage; roles = s .roles; users = users; holdings = s .holdings; assigns = s .assigns; revokes = s .revokes; goals = s .goals }
+abbrev pub sayUsers : List Name → Said → Said
+sayUsers users s = record { stage = s .stage; roles = s .roles; users = users; holdings = s .holdings; assigns = s .assigns; revokes = s .revokes; goals = s .goals }
 
-abbrev pub withHoldings : State → Said → Said
-withHoldings holdings s = record { stage = s .stage; roles = s .roles; users = s .users; holdings = holdings; assigns = s .assigns; revokes = s .revokes; goals = s .goals }
+abbrev pub sayHoldings : State → Said → Said
+sayHoldings holdings s = record { stage = s .stage; roles = s .roles; users = s .users; holdings = holdings; assigns = s .assigns; revokes = s .revokes; goals = s .goals }
 
-abbrev pub withAssigns : List Assign → Said → Said
-withAssigns assigns s = record { stage = s .stage; roles = s .roles; users = s .users; holdings = s .holdings; assigns = assigns; revokes = s .revokes; goals = s .goals }
+abbrev pub sayAssigns : List Assign → Said → Said
+sayAssigns assigns s = record { stage = s .stage; roles = s .roles; users = s .users; holdings = s .holdings; assigns = assigns; revokes = s .revokes; goals = s .goals }
 
-abbrev pub withRevokes : List Revoke → Said → Said
-withRevokes revokes s = record { stage = s .stage; roles = s .roles; users = s .users; holdings = s .holdings; assigns = s .assigns; revokes = revokes; goals = s .goals }
+abbrev pub sayRevokes : List Revoke → Said → Said
+sayRevokes revokes s = record { stage = s .stage; roles = s .roles; users = s .users; holdings = s .holdings; assigns = s .assigns; revokes = revokes; goals = s .goals }
 
-abbrev pub withGoals : List RoleSet → Said → Said
-withGoals goals s = record { stage = s .stage; roles = s .roles; users = s .users; holdings = s .holdings; assigns = s .assigns; revokes = s .revokes; goals = goals }
+abbrev pub sayGoals : List RoleSet → Said → Said
+sayGoals goals s = record { stage = s .stage; roles = s .roles; users = s .users; holdings = s .holdings; assigns = s .assigns; revokes = s .revokes; goals = goals }
 
 -- The kind of the line that says an entry.
 unfoldable pub kindOf : Entry → ℕ
@@ -81,12 +81,12 @@ kindOf Entry.End = endKind
 -- What an entry adds to its part: one more at the end, or a role to what a user holds.
 unfoldable pub noted : Said → Entry → Said
 noted s Entry.Header = s
-noted s (Entry.Role name) = withRoles (s .roles ++ (name ∷ [])) s
-noted s (Entry.User name clearance) = withUsers (s .users ++ (name ∷ [])) (withHoldings (s .holdings ++ (record { clearance = clearance; roles = emptySet } ∷ [])) s)
-noted s (Entry.Has user role) = withHoldings (granted (s .holdings) user role) s
-noted s (Entry.Assign rule) = withAssigns (s .assigns ++ (rule ∷ [])) s
-noted s (Entry.Revoke rule) = withRevokes (s .revokes ++ (rule ∷ [])) s
-noted s (Entry.Goal goal) = withGoals (s .goals ++ (goal ∷ [])) s
+noted s (Entry.Role name) = sayRoles (s .roles ++ (name ∷ [])) s
+noted s (Entry.User name clearance) = sayUsers (s .users ++ (name ∷ [])) (sayHoldings (s .holdings ++ (record { clearance = clearance; roles = emptySet } ∷ [])) s)
+noted s (Entry.Has user role) = sayHoldings (granted (s .holdings) user role) s
+noted s (Entry.Assign rule) = sayAssigns (s .assigns ++ (rule ∷ [])) s
+noted s (Entry.Revoke rule) = sayRevokes (s .revokes ++ (rule ∷ [])) s
+noted s (Entry.Goal goal) = sayGoals (s .goals ++ (goal ∷ [])) s
 noted s Entry.End = s
 
 unfoldable pub added : Said → Entry → Said
@@ -123,9 +123,3 @@ judgeLine s line = inTurn bad (lineTests s line) (leads s (lineAsked s line .say
 unfoldable pub readPolicy : List ℕ → Reading Said
 readPolicy text = readText judgeLine 11 10 nothing text
 
--- what fills the arrays
-unfoldable pub noAssign : Assign
-noAssign = record { admin = 0; positive = emptySet; negative = emptySet; target = 0 }
-
-unfoldable pub noRevoke : Revoke
-noRevoke = record { admin = 0; target = 0 }

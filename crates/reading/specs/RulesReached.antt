@@ -8,6 +8,7 @@ use Rattle.roles.specs.declared.RoleSet.{RoleSet}
 use Rattle.roles.specs.Sets.{emptySet}
 use Rattle.model.specs.declared.Assign.{Assign}
 use Rattle.model.specs.declared.Revoke.{Revoke}
+use Rattle.model.specs.Policy.{noAssign, noRevoke}
 use Rattle.tables.specs.Names.{rows}
 use Rattle.text.specs.Pieces.{part, Sought}
 use Rattle.lines.specs.declared.Counts.{Counts}
@@ -16,7 +17,7 @@ use Rattle.lines.specs.declared.PolicyLine.{PolicyLine}
 use Rattle.walking.specs.Turns.{inTurn}
 use Rattle.lines.specs.Lines.{policyLine, assignKind, revokeKind, goalKind}
 use Rattle.reading.specs.declared.policy.Rules.{Rules}
-use Rattle.reading.specs.Policy.{Said, nothing, countsOf, kindOf, noted, added, isNew, leads, noAssign, noRevoke}
+use Rattle.reading.specs.Policy.{Said, nothing, countsOf, kindOf, noted, added, isNew, leads}
 use Rattle.reading.specs.Answer.{entered}
 use Rattle.tables.specs.Padded.{padded}
 use Rattle.tables.specs.Storing.{more-one, store-next}

@@ -14,7 +14,7 @@ use Rattle.roles.specs.Members.{empty-none, empty-sized, with-cases, with-sized
 use Rattle.model.specs.declared.Assign.{Assign}
 use Rattle.model.specs.declared.Revoke.{Revoke}
 use Rattle.model.specs.declared.Person.{Person}
-use Rattle.model.specs.Policy.{State, nobody, person, holding, granted}
+use Rattle.model.specs.Policy.{State, nobody, person, withRole, granted}
 use Rattle.tables.specs.declared.Name.{Name}
 use Rattle.tables.specs.Names.{packed, placeOf}
 use Rattle.tables.specs.Named.{Named, named-more, named-none}
@@ -28,7 +28,7 @@ use Rattle.fields.specs.Roles.{Inside, roles-inside}
 use Rattle.lines.specs.declared.Entry.{Entry}
 use Rattle.lines.specs.Lines.{Line, header, role, user, has, assign, revoke, goal, end, other, lineOf, asked, inOrder, roleKind, userKind}
 use Rattle.lines.specs.LineLaws.{GoodLine}
-use Rattle.reading.specs.Policy.{Said, nothing, countsOf, atStage, withRoles, withUsers, withHoldings, withAssigns, withRevokes, withGoals, kindOf, noted, added, judgeLine, readPolicy}
+use Rattle.reading.specs.Policy.{Said, nothing, countsOf, atStage, sayRoles, sayUsers, sayHoldings, sayAssigns, sayRevokes, sayGoals, kindOf, noted, added, judgeLine, readPolicy}
 use Rattle.reading.specs.Answer.{line-leads}
 
 -- At most so many names, each well formed, and none twice.
@@ -72,21 +72,21 @@ module _ {s : Said} (h : Sound s) where
   pub at-stage : (kind : ℕ) → Sound (atStage kind s)
   at-stage kind = record { roles = h .roles; users = h .users; people = h .people; holdings = h .holdings; assigns = h .assigns; revokes = h .revokes; goals = h .goals }
 
-  with-users : {users : List Name} {holdings : State} → Listing 64 users → length holdings ≡ length users → ((p : Person) → Listed p holdings → PersonOver (length (s .roles)) p)
-      → Sound (withUsers users (withHoldings holdings s))
-  with-users listing many over = record { roles = h .roles; users = listing; people = many; holdings = over; assigns = h .assigns; revokes = h .revokes; goals = h .goals }
+  say-users : {users : List Name} {holdings : State} → Listing 64 users → length holdings ≡ length users → ((p : Person) → Listed p holdings → PersonOver (length (s .roles)) p)
+      → Sound (sayUsers users (sayHoldings holdings s))
+  say-users listing many over = record { roles = h .roles; users = listing; people = many; holdings = over; assigns = h .assigns; revokes = h .revokes; goals = h .goals }
 
-  with-holdings : {holdings : State} → length holdings ≡ length (s .users) → ((p : Person) → Listed p holdings → PersonOver (length (s .roles)) p) → Sound (withHoldings holdings s)
-  with-holdings many over = record { roles = h .roles; users = h .users; people = many; holdings = over; assigns = h .assigns; revokes = h .revokes; goals = h .goals }
+  say-holdings : {holdings : State} → length holdings ≡ length (s .users) → ((p : Person) → Listed p holdings → PersonOver (length (s .roles)) p) → Sound (sayHoldings holdings s)
+  say-holdings many over = record { roles = h .roles; users = h .users; people = many; holdings = over; assigns = h .assigns; revokes = h .revokes; goals = h .goals }
 
-  with-assigns : {assigns : List Assign} → AtMost 256 (AssignOver (length (s .roles))) assigns → Sound (withAssigns assigns s)
-  with-assigns over = record { roles = h .roles; users = h .users; people = h .people; holdings = h .holdings; assigns = over; revokes = h .revokes; goals = h .goals }
+  say-assigns : {assigns : List Assign} → AtMost 256 (AssignOver (length (s .roles))) assigns → Sound (sayAssigns assigns s)
+  say-assigns over = record { roles = h .roles; users = h .users; people = h .people; holdings = h .holdings; assigns = over; revokes = h .revokes; goals = h .goals }
 
-  with-revokes : {revokes : List Revoke} → AtMost 256 (RevokeOver (length (s .roles))) revokes → Sound (withRevokes revokes s)
-  with-revokes over = record { roles = h .roles; users = h .users; people = h .people; holdings = h .holdings; assigns = h .assigns; revokes = over; goals = h .goals }
+  say-revokes : {revokes : List Revoke} → AtMost 256 (RevokeOver (length (s .roles))) revokes → Sound (sayRevokes revokes s)
+  say-revokes over = record { roles = h .roles; users = h .users; people = h .people; holdings = h .holdings; assigns = h .assigns; revokes = over; goals = h .goals }
 
-  with-goals : {goals : List RoleSet} → AtMost 32 (Inside (length (s .roles))) goals → Sound (withGoals goals s)
-  with-goals over = record { roles = h .roles; users = h .users; people = h .people; holdings = h .holdings; assigns = h .assigns; revokes = h .revokes; goals = over }
+  say-goals : {goals : List RoleSet} → AtMost 32 (Inside (length (s .roles))) goals → Sound (sayGoals goals s)
+  say-goals over = record { roles = h .roles; users = h .users; people = h .people; holdings = h .holdings; assigns = h .assigns; revokes = h .revokes; goals = over }
 
 -- ---- more roles
 
@@ -96,8 +96,8 @@ inside-more up inside = record { sized = inside .sized; below = λ found. omega 
 at-most-more : {A : Type 0} {limit : ℕ} {P Q : A → Type 0} {xs : List A} → ((x : A) → P x → Q x) → AtMost limit P xs → AtMost limit Q xs
 at-most-more more all = record { most = all .most; each = λ x m. more x (all .each x m) }
 
-with-roles : {s : Said} {roles : List Name} → Sound s → length (s .roles) ≤ length roles → Listing 128 roles → Sound (withRoles roles s)
-with-roles h up listing = record {
+say-roles : {s : Said} {roles : List Name} → Sound s → length (s .roles) ≤ length roles → Listing 128 roles → Sound (sayRoles roles s)
+say-roles h up listing = record {
   roles = listing;
   users = h .users;
   people = h .people;
@@ -140,28 +140,28 @@ placed-below names field known = ltb-true (placed names field) (length names) kn
 -- A good line keeps it so.
 entry-sound : (s : Said) (line : Line) → asked (countsOf s) (s .roles) (s .users) line .formed ≡ true → asked (countsOf s) (s .roles) (s .users) line .within ≡ true
     → asked (countsOf s) (s .roles) (s .users) line .known ≡ true → Sound s → Sound (noted s (asked (countsOf s) (s .roles) (s .users) line .says))
-unfolding asked noted countsOf person holding granted nobody
+unfolding asked noted countsOf person granted withRole nobody
 entry-sound s (header edition) formed within known h = h
 entry-sound s (role name) formed within known h =
     let (fits, new) = and-eq-true-iff (inOrder (s .stage) roleKind && isName name) (not (isDeclared (s .roles) name)) .0 formed in
-    with-roles h (omega (arith, length-append (s .roles) (packed name ∷ [])))
+    say-roles h (omega (arith, length-append (s .roles) (packed name ∷ [])))
     (listing-more name (h .roles) (ltb-true (length (s .roles)) 128 within) (and-eq-true-iff (inOrder (s .stage) roleKind) (isName name) .0 fits .1) new)
 entry-sound s (user name clearance) formed within known h =
     let (fits, new) = and-eq-true-iff (inOrder (s .stage) userKind && isName name && isLabel clearance) (not (isDeclared (s .users) name)) .0 formed in
     let form = and-eq-true-iff (inOrder (s .stage) userKind) (isName name) .0 (and-eq-true-iff (inOrder (s .stage) userKind && isName name) (isLabel clearance) .0 fits .0) .1 in
-    with-users h (listing-more name (h .users) (ltb-true (length (s .users)) 64 within) form new)
+    say-users h (listing-more name (h .users) (ltb-true (length (s .users)) 64 within) form new)
     (omega (arith, length-append (s .users) (packed name ∷ []), length-append (s .holdings) (record { clearance = sameBytes clearance (bytes "H"); roles = emptySet } ∷ []), h .people))
     (each-more (PersonOver (length (s .roles))) (s .holdings) (h .holdings) (record { held = empty-inside }))
 entry-sound s (has holder held) formed within known h =
     let (listed, declared) = and-eq-true-iff (isDeclared (s .users) holder) (isDeclared (s .roles) held) .0 known in
     let old = each-get (PersonOver (length (s .roles))) (s .holdings) (placed (s .users) holder) (h .holdings) (record { held = empty-inside }) in
-    with-holdings h (length-set (s .holdings) (placed (s .users) holder) _ ∙ h .people)
+    say-holdings h (length-set (s .holdings) (placed (s .users) holder) _ ∙ h .people)
     (each-set (PersonOver (length (s .roles))) (s .holdings) (placed (s .users) holder) (h .holdings) (record { held = inside-with (placed-below (s .roles) held declared) (old .held) }))
 entry-sound s (assign admin positive negative target) formed within known h =
     let (left, right) = and-eq-true-iff (isDeclared (s .roles) admin && allDeclared (s .roles) positive) (allDeclared (s .roles) negative && isDeclared (s .roles) target) .0 known in
     let (is-admin, plus) = and-eq-true-iff (isDeclared (s .roles) admin) (allDeclared (s .roles) positive) .0 left in
     let (minus, is-target) = and-eq-true-iff (allDeclared (s .roles) negative) (isDeclared (s .roles) target) .0 right in
-    with-assigns h (at-most-one-more (h .assigns) (ltb-true (length (s .assigns)) 256 within) (record {
+    say-assigns h (at-most-one-more (h .assigns) (ltb-true (length (s .assigns)) 256 within) (record {
       admin = placed-below (s .roles) admin is-admin;
       positive = roles-inside (s .roles) positive plus;
       negative = roles-inside (s .roles) negative minus;
@@ -169,8 +169,8 @@ entry-sound s (assign admin positive negative target) formed within known h =
     }))
 entry-sound s (revoke admin target) formed within known h =
     let (is-admin, is-target) = and-eq-true-iff (isDeclared (s .roles) admin) (isDeclared (s .roles) target) .0 known in
-    with-revokes h (at-most-one-more (h .revokes) (ltb-true (length (s .revokes)) 256 within) (record { admin = placed-below (s .roles) admin is-admin; target = placed-below (s .roles) target is-target }))
-entry-sound s (goal set) formed within known h = with-goals h (at-most-one-more (h .goals) (ltb-true (length (s .goals)) 32 within) (roles-inside (s .roles) set known))
+    say-revokes h (at-most-one-more (h .revokes) (ltb-true (length (s .revokes)) 256 within) (record { admin = placed-below (s .roles) admin is-admin; target = placed-below (s .roles) target is-target }))
+entry-sound s (goal set) formed within known h = say-goals h (at-most-one-more (h .goals) (ltb-true (length (s .goals)) 32 within) (roles-inside (s .roles) set known))
 entry-sound s end formed within known h = h
 entry-sound s other formed within known h = h
 

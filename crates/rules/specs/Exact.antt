@@ -8,11 +8,13 @@ use native.Mathlib.Omega.{arith}
 use Rattle.roles.specs.declared.RoleSet.{RoleSet}
 use Rattle.roles.specs.Sets.{emptySet, hasRole, singleOf, withOf, withoutOf, sharesRole, includes}
 use Rattle.roles.specs.Members.{_∈_, Share, Within, Sized, below, absent-test, empty-sized, single-own, single-only, with-cases, with-old, with-new, without-old, without-gone, without-other, with-sized}
+use Rattle.roles.specs.Joined.{either-exact, both-exact, not-exact, share-exact, within-exact}
 use Rattle.model.specs.declared.Typing.{Typing as Table}
 use Rattle.model.specs.declared.Assign.{Assign}
 use Rattle.model.specs.declared.Revoke.{Revoke}
 use Rattle.model.specs.declared.Person.{Person}
 use Rattle.model.specs.Policy.{L, H, _⊑_}
+use Rattle.model.specs.Sized.{SizedRule}
 use Rattle.model.specs.Typing.{Typing, Inconsistent, Held, Absent, closure, UpTo, Clash, Suits, HeldFor, AbsentFor, AssignPasses, RevokePasses, WellTyped, GoalPasses}
 use Rattle.model.specs.Meaning.{meaning}
 use Rattle.sheets.specs.Turned.{setsOf, turnedOf}
@@ -23,17 +25,17 @@ use Rattle.closing.specs.Clauses.{SizedPair, Fits, own-plus, own-minus, needed-
 use Rattle.closing.specs.Least.{close-held, close-absent}
 use Rattle.closing.specs.Tests.{clash-test}
 use Rattle.rules.specs.Tests.{implies, inconsistentRole, personPasses, holdsHigh, unopposedTarget, unneededTarget, targetSuits, assignPasses, revokePasses, goalPasses}
-use Rattle.rules.specs.Joined.{implies-exact, either-exact, both-exact, not-exact, share-exact, within-exact}
 
 -- A typing that fits its roles, with the label L past them. A set may name a role past them: nothing is then asked of it.
 pub record Laid (t : Table) (roles : ℕ) : Type 0 where
   pub fits : Fits t roles
   pub low-past : (role : ℕ) → roles ≤ role → meaning t .label role ≡ L
 
--- The sets of an assign rule are words of 64 bits.
-pub record SizedRule (rule : Assign) : Type 0 where
-  pub positive : Sized (rule .positive)
-  pub negative : Sized (rule .negative)
+-- where the first holds, the second does
+implies-exact : (a b : Bool) → implies a b ≡ true ↔ (a ≡ true → b ≡ true)
+unfolding implies
+implies-exact true b = (λ e h. e, λ f. f refl)
+implies-exact false b = (λ e h. absurd (false≢true h), λ f. refl)
 
 -- ---- what the rules ask of all roles
 

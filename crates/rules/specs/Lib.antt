@@ -1,4 +1,3 @@
 -- The typing rules as tests, and that each test is exact.
 pub mod Tests
-pub mod Joined
 pub mod Exact

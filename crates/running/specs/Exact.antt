@@ -1,11 +1,14 @@
 -- The verdict on a trace is exact: each of the four is given exactly when its words in document 01's table hold.
 use Prim.Native.Nat.{ℕ, zero, suc, _-_}
-use mathlib.Core.List.{List}
+use mathlib.Core.List.{List, List·Memᴰ as Listed}
 use mathlib.Core.Logic.{_↔_}
 use mathlib.Core.Path.{_≡_, refl, sym, ap, ap₂, subst, _∙_}
 use lib.ListN.{length}
 use native.Mathlib.Omega.{arith}
+use Rattle.roles.specs.declared.RoleSet.{RoleSet}
+use Rattle.roles.specs.Members.{Sized}
 use Rattle.model.specs.Policy.{State, Bad}
+use Rattle.model.specs.Sized.{SizedPolicy}
 use Rattle.model.specs.Safety.{Attack}
 use Rattle.walking.specs.Texts.{Reading, read, refused}
 use Rattle.reading.specs.Policy.{Said, policyOf}
@@ -13,8 +16,7 @@ use Rattle.steps.specs.declared.Found.{Found}
 use Rattle.steps.specs.declared.Step.{Step}
 use Rattle.steps.specs.Tests.{firstBad}
 use Rattle.steps.specs.Traces.{Ran, broken, ran, runOf}
-use Rattle.steps.specs.Exact.{SizedRules}
-use Rattle.steps.specs.Bad.{SizedGoals, FirstBad, bad-exact, bad-first, first-only, first-is-bad}
+use Rattle.steps.specs.Bad.{FirstBad, bad-exact, bad-first, first-only, first-is-bad}
 use Rattle.following.specs.Follows.{Follows, Breaks}
 use Rattle.following.specs.Exact.{follows-exact, breaks-exact, follows-run}
 use Rattle.traces.specs.TraceText.{Traced, readTrace}
@@ -60,28 +62,28 @@ pub record Short (s : Said) (text : List ℕ) (count : ℕ) : Type 0 where
 module _ (s : Said) (text : List ℕ) where
   data Outcome : TraceVerdict → Type 0 where
     no-trace : {number line : ℕ} → readTrace (length (s .assigns)) (length (s .revokes)) (s .users) text ≡ refused number line → Outcome (TraceVerdict.Refused number line)
-    stops : {steps : List Step} {number : ℕ} → ReadsAs s text steps → runOf (s .assigns) (s .revokes) (s .holdings) steps ≡ broken number → Outcome (TraceVerdict.Broken number)
-    no-one : {steps : List Step} {last : State} → ReadsAs s text steps → runOf (s .assigns) (s .revokes) (s .holdings) steps ≡ ran last → firstBad last (s .goals) .user ≡ 0
+    stops : {steps : List Step} {number : ℕ} → ReadsAs s text steps → runOf (policyOf s) (s .holdings) steps ≡ broken number → Outcome (TraceVerdict.Broken number)
+    no-one : {steps : List Step} {last : State} → ReadsAs s text steps → runOf (policyOf s) (s .holdings) steps ≡ ran last → firstBad last (s .goals) .user ≡ 0
         → Outcome (TraceVerdict.Short (length steps))
-    someone : {steps : List Step} {last : State} {user : ℕ} → ReadsAs s text steps → runOf (s .assigns) (s .revokes) (s .holdings) steps ≡ ran last → firstBad last (s .goals) .user ≡ suc user
+    someone : {steps : List Step} {last : State} {user : ℕ} → ReadsAs s text steps → runOf (policyOf s) (s .holdings) steps ≡ ran last → firstBad last (s .goals) .user ≡ suc user
         → Outcome (TraceVerdict.Attacked (length steps) user (firstBad last (s .goals) .goal))
 
   verdict-read : {r : Reading Traced} → readTrace (length (s .assigns)) (length (s .revokes)) (s .users) text ≡ r → traceVerdict s text ≡ readVerdict s r
   unfolding traceVerdict
   verdict-read reads = ap (readVerdict s) reads
 
-  verdict-run : {steps : List Step} {x : Ran} → ReadsAs s text steps → runOf (s .assigns) (s .revokes) (s .holdings) steps ≡ x → traceVerdict s text ≡ ranVerdict (length steps) (s .goals) x
+  verdict-run : {steps : List Step} {x : Ran} → ReadsAs s text steps → runOf (policyOf s) (s .holdings) steps ≡ x → traceVerdict s text ≡ ranVerdict (length steps) (s .goals) x
   unfolding readVerdict
   verdict-run {steps} told runs =
-      verdict-read (told .reads) ∙ ap (λ (l : List Step). ranVerdict (length l) (s .goals) (runOf (s .assigns) (s .revokes) (s .holdings) l)) (told .are)
+      verdict-read (told .reads) ∙ ap (λ (l : List Step). ranVerdict (length l) (s .goals) (runOf (policyOf s) (s .holdings) l)) (told .are)
       ∙ ap (ranVerdict (length steps) (s .goals)) runs
 
-  verdict-short : {steps : List Step} {last : State} → ReadsAs s text steps → runOf (s .assigns) (s .revokes) (s .holdings) steps ≡ ran last → firstBad last (s .goals) .user ≡ 0
+  verdict-short : {steps : List Step} {last : State} → ReadsAs s text steps → runOf (policyOf s) (s .holdings) steps ≡ ran last → firstBad last (s .goals) .user ≡ 0
       → traceVerdict s text ≡ TraceVerdict.Short (length steps)
   unfolding ranVerdict
   verdict-short {steps} {last} told runs none = verdict-run told runs ∙ sym (last-short (length steps) (firstBad last (s .goals)) none)
 
-  verdict-attacked : {steps : List Step} {last : State} {user : ℕ} → ReadsAs s text steps → runOf (s .assigns) (s .revokes) (s .holdings) steps ≡ ran last → firstBad last (s .goals) .user ≡ suc user
+  verdict-attacked : {steps : List Step} {last : State} {user : ℕ} → ReadsAs s text steps → runOf (policyOf s) (s .holdings) steps ≡ ran last → firstBad last (s .goals) .user ≡ suc user
       → traceVerdict s text ≡ TraceVerdict.Attacked (length steps) user (firstBad last (s .goals) .goal)
   unfolding ranVerdict
   verdict-attacked {steps} {last} {user} told runs one =
@@ -93,17 +95,17 @@ module _ (s : Said) (text : List ℕ) where
   unfolding readVerdict ranVerdict
   outcome = go (readTrace (length (s .assigns)) (length (s .revokes)) (s .users) text) refl
     where
-      ended : {steps : List Step} {last : State} → ReadsAs s text steps → runOf (s .assigns) (s .revokes) (s .holdings) steps ≡ ran last → (user : ℕ) → firstBad last (s .goals) .user ≡ user → Outcome (traceVerdict s text)
+      ended : {steps : List Step} {last : State} → ReadsAs s text steps → runOf (policyOf s) (s .holdings) steps ≡ ran last → (user : ℕ) → firstBad last (s .goals) .user ≡ user → Outcome (traceVerdict s text)
       ended told runs zero none = subst Outcome (sym (verdict-short told runs none)) (no-one told runs none)
       ended told runs (suc user) one = subst Outcome (sym (verdict-attacked told runs one)) (someone told runs one)
 
-      tried : {steps : List Step} → ReadsAs s text steps → (x : Ran) → runOf (s .assigns) (s .revokes) (s .holdings) steps ≡ x → Outcome (traceVerdict s text)
+      tried : {steps : List Step} → ReadsAs s text steps → (x : Ran) → runOf (policyOf s) (s .holdings) steps ≡ x → Outcome (traceVerdict s text)
       tried told (broken number) runs = subst Outcome (sym (verdict-run told runs)) (stops told runs)
       tried told (ran last) runs = ended told runs (firstBad last (s .goals) .user) refl
 
       go : (r : Reading Traced) → readTrace (length (s .assigns)) (length (s .revokes)) (s .users) text ≡ r → Outcome (traceVerdict s text)
       go (refused number line) reads = subst Outcome (sym (verdict-read reads)) (no-trace reads)
-      go (read t) reads = tried (record { trace = t; reads = reads; are = refl }) (runOf (s .assigns) (s .revokes) (s .holdings) (t .steps)) refl
+      go (read t) reads = tried (record { trace = t; reads = reads; are = refl }) (runOf (policyOf s) (s .holdings) (t .steps)) refl
 
 -- ---- a refusal
 
@@ -123,15 +125,10 @@ run-refused s text k n = (refused-told (outcome s text), λ reads. verdict-read 
 
 -- ---- the other verdicts, where the sets of the policy are words of 64 bits
 
-module _ (s : Said) (rules : SizedRules (s .assigns)) (goals : SizedGoals (s .goals)) where
-  -- the steps run exactly when they follow, and break exactly where one is no step
-  runs-exact : (last : State) (steps : List Step) → runOf (s .assigns) (s .revokes) (s .holdings) steps ≡ ran last ↔ Follows (policyOf s) (s .holdings) steps last
+module _ (s : Said) (sized : SizedPolicy (policyOf s)) where
+  goals-sized : (goal : RoleSet) → Listed goal (s .goals) → Sized goal
   unfolding policyOf
-  runs-exact last steps = follows-exact rules (s .holdings) last steps
-
-  stops-exact : (steps : List Step) (number : ℕ) → runOf (s .assigns) (s .revokes) (s .holdings) steps ≡ broken number ↔ Breaks (policyOf s) (s .holdings) steps number
-  unfolding policyOf
-  stops-exact steps number = breaks-exact rules (s .holdings) steps number
+  goals-sized goal listed = sized .goals listed
 
   attacked-told : {text : List ℕ} {v : TraceVerdict} {n u g : ℕ} → Outcome s text v → v ≡ TraceVerdict.Attacked n u g → Attacked s text n u g
   attacked-told (no-trace reads) e = absurd (let z : _≡_ {A = ℕ} 0 1 = cc in omega arith)
@@ -145,37 +142,37 @@ module _ (s : Said) (rules : SizedRules (s .assigns)) (goals : SizedGoals (s .go
         reads = told;
         counted = cc;
         last = last;
-        follows = runs-exact last steps .0 runs;
-        first = subst (FirstBad (s .goals) last) (λ i. record { user = user-is i; goal = goal-is i }) (bad-first goals last (λ none. omega (arith, none, one)));
+        follows = follows-exact sized (s .holdings) last steps .0 runs;
+        first = subst (FirstBad (s .goals) last) (λ i. record { user = user-is i; goal = goal-is i }) (bad-first goals-sized last (λ none. omega (arith, none, one)));
       }
 
   -- ATTACKED exactly when the text is read as that many steps, they follow, and these are the first such user and that user's lowest goal.
   pub attacked-exact : (text : List ℕ) (n u g : ℕ) → traceVerdict s text ≡ TraceVerdict.Attacked n u g ↔ Attacked s text n u g
-  attacked-exact text n u g = (attacked-told (outcome s text), λ a. given a (first-only goals (a .last) (a .first)))
+  attacked-exact text n u g = (attacked-told (outcome s text), λ a. given a (first-only goals-sized (a .last) (a .first)))
     where
       given : (a : Attacked s text n u g) → firstBad (a .last) (s .goals) ≡ record { user = suc u; goal = g } → traceVerdict s text ≡ TraceVerdict.Attacked n u g
       given a found =
-          verdict-attacked s text (a .reads) (runs-exact (a .last) (a .steps) .1 (a .follows)) (ap (λ (f : Found). f .user) found)
+          verdict-attacked s text (a .reads) (follows-exact sized (s .holdings) (a .last) (a .steps) .1 (a .follows)) (ap (λ (f : Found). f .user) found)
           ∙ ap₂ (λ (m k : ℕ). TraceVerdict.Attacked m u k) (sym (a .counted)) (ap (λ (f : Found). f .goal) found)
 
   broken-told : {text : List ℕ} {v : TraceVerdict} {n : ℕ} → Outcome s text v → v ≡ TraceVerdict.Broken n → Broken s text n
   broken-told (no-trace reads) e = absurd (let z : _≡_ {A = ℕ} 0 1 = cc in omega arith)
   broken-told {n = n} (stops {steps = steps} {number = number} told runs) e =
       let same : number ≡ n = cc in
-      record { steps = steps; reads = told; breaks = stops-exact steps n .0 (runs ∙ ap broken same) }
+      record { steps = steps; reads = told; breaks = breaks-exact sized (s .holdings) steps n .0 (runs ∙ ap broken same) }
   broken-told (no-one told runs none) e = absurd (let z : _≡_ {A = ℕ} 0 1 = cc in omega arith)
   broken-told (someone told runs one) e = absurd (let z : _≡_ {A = ℕ} 0 1 = cc in omega arith)
 
   -- BROKEN with a number exactly when the text is read, the steps before that number follow, and the step with that number is none there.
   pub broken-first : (text : List ℕ) (n : ℕ) → traceVerdict s text ≡ TraceVerdict.Broken n ↔ Broken s text n
   unfolding ranVerdict
-  broken-first text n = (broken-told (outcome s text), λ b. verdict-run s text (b .reads) (stops-exact (b .steps) n .1 (b .breaks)))
+  broken-first text n = (broken-told (outcome s text), λ b. verdict-run s text (b .reads) (breaks-exact sized (s .holdings) (b .steps) n .1 (b .breaks)))
 
   short-told : {text : List ℕ} {v : TraceVerdict} {n : ℕ} → Outcome s text v → v ≡ TraceVerdict.Short n → Short s text n
   short-told (no-trace reads) e = absurd (let z : _≡_ {A = ℕ} 0 1 = cc in omega arith)
   short-told (stops told runs) e = absurd (let z : _≡_ {A = ℕ} 0 1 = cc in omega arith)
   short-told (no-one {steps = steps} {last = last} told runs none) e =
-      record { steps = steps; reads = told; counted = cc; last = last; follows = runs-exact last steps .0 runs; safe = bad-exact goals last .0 none }
+      record { steps = steps; reads = told; counted = cc; last = last; follows = follows-exact sized (s .holdings) last steps .0 runs; safe = bad-exact goals-sized last .0 none }
   short-told (someone told runs one) e = absurd (let z : _≡_ {A = ℕ} 0 1 = cc in omega arith)
 
   -- SHORT exactly when the text is read as that many steps, and they follow to a state that is not bad.
@@ -183,7 +180,7 @@ module _ (s : Said) (rules : SizedRules (s .assigns)) (goals : SizedGoals (s .go
   short-exact text n = (
     short-told (outcome s text),
     λ short.
-        verdict-short s text (short .reads) (runs-exact (short .last) (short .steps) .1 (short .follows)) (bad-exact goals (short .last) .1 (short .safe))
+        verdict-short s text (short .reads) (follows-exact sized (s .holdings) (short .last) (short .steps) .1 (short .follows)) (bad-exact goals-sized (short .last) .1 (short .safe))
         ∙ ap TraceVerdict.Short (sym (short .counted)),
   )
 

@@ -7,12 +7,12 @@ use lib.Seq.{take-at}
 use native.Mathlib.Omega.{arith}
 use Rattle.roles.specs.Sets.{emptySet}
 use Rattle.model.specs.declared.Person.{Person}
-use Rattle.model.specs.Policy.{nobody}
+use Rattle.model.specs.Policy.{noAssign, noRevoke, State, nobody}
 use Rattle.tables.specs.Names.{rows}
 use Rattle.reading.specs.declared.directory.Directory.{Directory}
 use Rattle.reading.specs.declared.policy.Rules.{Rules}
 use Rattle.walking.specs.Texts.{Reading, read, refused}
-use Rattle.reading.specs.Policy.{Said, countsOf, noAssign, noRevoke}
+use Rattle.reading.specs.Policy.{Said, countsOf, policyOf}
 use Rattle.tables.specs.Padded.{padded}
 use Rattle.reading.specs.Rules.{laidWith, laidOut}
 use Rattle.reading.specs.Told.{Laid, users-laid, people-laid, tables-laid}
@@ -28,6 +28,10 @@ pub record Arrays : Type 0 where
 abbrev pub arrays : List ℕ → List Person → Rules → Arrays
 arrays users persons rules = record { users = users; persons = persons; rules = rules }
 
+-- The state that an array of persons holds.
+unfoldable pub stateIn : Arrays → List Person → State
+stateIn p persons = take (p .rules .counts .users) persons
+
 -- No count of users or rules is above its limit, and the table has the users' names.
 pub record Counted (p : Arrays) : Type 0 where
   pub users : p .rules .counts .users ≤ 64
@@ -41,7 +45,7 @@ saidIn p = record {
   stage = p .rules .counts .stage;
   roles = [];
   users = rows (p .rules .counts .users) (p .users);
-  holdings = take (p .rules .counts .users) (p .persons);
+  holdings = stateIn p (p .persons);
   assigns = take (p .rules .counts .assigns) (p .rules .assigns);
   revokes = take (p .rules .counts .revokes) (p .rules .revokes);
   goals = take (p .rules .counts .goals) (p .rules .goals);
@@ -57,7 +61,7 @@ unnamed : Said → Said
 unnamed s = record { stage = s .stage; roles = []; users = s .users; holdings = s .holdings; assigns = s .assigns; revokes = s .revokes; goals = s .goals }
 
 unnamed-verdict : (s : Said) (text : List ℕ) → traceVerdict (unnamed s) text ≡ traceVerdict s text
-unfolding unnamed traceVerdict readVerdict
+unfolding unnamed policyOf traceVerdict readVerdict
 unnamed-verdict s text = go (readTrace (length (s .assigns)) (length (s .revokes)) (s .users) text)
   where
     go : (r : Reading Traced) → readVerdict (unnamed s) r ≡ readVerdict s r
@@ -67,7 +71,7 @@ unnamed-verdict s text = go (readTrace (length (s .assigns)) (length (s .revokes
 module _ {s : Said} {D : Directory} {R : Rules} (l : Laid s D R) where
   -- Of a policy that is read they say what was read,
   said-laid : saidIn (arrays (D .users) (D .persons) R) ≡ unnamed s
-  unfolding saidIn laidOut laidWith countsOf unnamed
+  unfolding saidIn stateIn laidOut laidWith countsOf unnamed
   said-laid = λ i. record {
     stage = l .rules i .counts .stage;
     roles = [];

@@ -8,8 +8,6 @@ use lib.Seq.{take-set-lt}
 use native.Mathlib.Numerals.{add-one}
 use native.Mathlib.Omega.{arith}
 use Rattle.roles.specs.declared.RoleSet.{RoleSet}
-use Rattle.model.specs.declared.Assign.{Assign}
-use Rattle.model.specs.declared.Revoke.{Revoke}
 use Rattle.model.specs.declared.Person.{Person}
 use Rattle.model.specs.Policy.{State}
 use Rattle.tables.specs.Names.{rows, rows-length}
@@ -17,6 +15,7 @@ use Rattle.text.specs.Forms.{bytes}
 use Rattle.text.specs.Pieces.{part, sameBytes, Sought}
 use Rattle.text.specs.Begins.{begins}
 use Rattle.walking.specs.Texts.{Reading, refused}
+use Rattle.reading.specs.Policy.{policyOf}
 use Rattle.steps.specs.declared.Found.{Found}
 use Rattle.steps.specs.declared.Step.{Step}
 use Rattle.steps.specs.Tests.{firstBad}
@@ -28,9 +27,9 @@ use Rattle.traces.specs.TraceLines.{traceLine}
 use Rattle.traces.specs.TraceText.{Traced, readTrace}
 use Rattle.traces.specs.TraceWalk.{After, after-header, line-last, line-step}
 use Rattle.running.specs.declared.TraceVerdict.{TraceVerdict}
-use Rattle.running.specs.Layout.{Arrays, Counted, saidIn}
+use Rattle.running.specs.Layout.{Arrays, stateIn, Counted, saidIn}
 use Rattle.running.specs.declared.Tried.{Tried}
-use Rattle.running.specs.Trying.{triedIn, tried-taken, tried-place, tried-possible, tried-after}
+use Rattle.running.specs.Trying.{triedIn, wholeOf, tried-taken, tried-place, tried-possible, tried-after}
 use Rattle.running.specs.Range.{Ranged, within, line-range}
 use Rattle.running.specs.Verdict.{ranVerdict, readVerdict, traceVerdict, soFar, endVerdict}
 
@@ -41,16 +40,6 @@ pub record Arrayed (p : Arrays) : Type 0 where
   pub assigns : length (p .rules .assigns) ≡ 256
   pub revokes : length (p .rules .revokes) ≡ 256
 
--- the rules and the state that the arrays hold
-unfoldable pub assignsIn : Arrays → List Assign
-assignsIn p = take (p .rules .counts .assigns) (p .rules .assigns)
-
-unfoldable pub revokesIn : Arrays → List Revoke
-revokesIn p = take (p .rules .counts .revokes) (p .rules .revokes)
-
-unfoldable pub stateIn : Arrays → List Person → State
-stateIn p persons = take (p .rules .counts .users) persons
-
 pub record Reached (p : Arrays) (text : List ℕ) (at number steps stopped : ℕ) (persons : List Person) : Type 0 where
   pub arrayed : Arrayed p
   -- the steps so far
@@ -59,7 +48,7 @@ pub record Reached (p : Arrays) (text : List ℕ) (at number steps stopped : ℕ
   pub few : steps ≤ at
   -- they run to the state that the array holds, or the first that is not possible is known
   pub wide : length persons ≡ 64
-  pub run : runOf (assignsIn p) (revokesIn p) (stateIn p (p .persons)) said ≡ soFar stopped (stateIn p persons)
+  pub run : runOf (policyOf (saidIn p)) (stateIn p (p .persons)) said ≡ soFar stopped (stateIn p persons)
   -- the whole text gives what the lines from here on give
   pub after : After (p .rules .counts .assigns) (p .rules .counts .revokes) (rows (p .rules .counts .users) (p .users)) text at number said
 
@@ -99,7 +88,7 @@ module _ {p : Arrays} {text : List ℕ} {at number steps stopped : ℕ} {persons
   -- the last line
   pub reached-last : {found : Found} {verdict : TraceVerdict} → sameBytes (part text at stop) (bytes "end") ≡ true → length text ≤ stop + 1
       → found ≡ firstBad (stateIn p persons) (take (p .rules .counts .goals) (p .rules .goals)) → verdict ≡ endVerdict stopped steps found → verdict ≡ traceVerdict (saidIn p) text
-  unfolding readVerdict saidIn assignsIn revokesIn stateIn
+  unfolding readVerdict saidIn
   reached-last {found} last all finds is =
       is ∙ ap (endVerdict stopped steps) finds ∙ end-is steps stopped (take (p .rules .counts .goals) (p .rules .goals)) (stateIn p persons)
       ∙ ap₂ (λ (n : ℕ) (x : Ran). ranVerdict n (take (p .rules .counts .goals) (p .rules .goals)) x) (r .counted) (sym (r .run))
@@ -107,7 +96,7 @@ module _ {p : Arrays} {text : List ℕ} {at number steps stopped : ℕ} {persons
 
   -- a step more
   module _ (is-not : sameBytes (part text at stop) (bytes "end") ≡ false) {answer : TraceLine} (given : answer ≡ traceLine (p .rules .counts .assigns) (p .rules .counts .revokes) (rows (p .rules .counts .users) (p .users)) (part text at stop)) {step : Step} (told : answer ≡ TraceLine.Step step) where
-    step-more : (stopped′ : ℕ) (persons′ : List Person) → length persons′ ≡ 64 → runOf (assignsIn p) (revokesIn p) (stateIn p (p .persons)) (r .said ++ (step ∷ [])) ≡ soFar stopped′ (stateIn p persons′)
+    step-more : (stopped′ : ℕ) (persons′ : List Person) → length persons′ ≡ 64 → runOf (policyOf (saidIn p)) (stateIn p (p .persons)) (r .said ++ (step ∷ [])) ≡ soFar stopped′ (stateIn p persons′)
         → Reached p text (stop + 1) (number + 1) (steps + 1) stopped′ persons′
     step-more stopped′ persons′ wide run = record {
       arrayed = r .arrayed;
@@ -124,10 +113,10 @@ module _ {p : Arrays} {text : List ℕ} {at number steps stopped : ℕ} {persons
     unfolding soFar
     step-passed some = step-more stopped persons (r .wide) (go stopped some (r .run))
       where
-        go : (n : ℕ) → (n ≡ 0 → ⊥) → runOf (assignsIn p) (revokesIn p) (stateIn p (p .persons)) (r .said) ≡ soFar n (stateIn p persons)
-            → runOf (assignsIn p) (revokesIn p) (stateIn p (p .persons)) (r .said ++ (step ∷ [])) ≡ soFar n (stateIn p persons)
+        go : (n : ℕ) → (n ≡ 0 → ⊥) → runOf (policyOf (saidIn p)) (stateIn p (p .persons)) (r .said) ≡ soFar n (stateIn p persons)
+            → runOf (policyOf (saidIn p)) (stateIn p (p .persons)) (r .said ++ (step ∷ [])) ≡ soFar n (stateIn p persons)
         go zero positive run = absurd (positive refl)
-        go (suc n) positive run = broken-stays (assignsIn p) (revokesIn p) (stateIn p (p .persons)) (r .said) (step ∷ []) (suc n) run
+        go (suc n) positive run = broken-stays (policyOf (saidIn p)) (stateIn p (p .persons)) (r .said) (step ∷ []) (suc n) run
 
     ranged : Ranged (p .rules .counts .assigns) (p .rules .counts .revokes) (p .rules .counts .users) step
     ranged =
@@ -138,42 +127,41 @@ module _ {p : Arrays} {text : List ℕ} {at number steps stopped : ℕ} {persons
     step-range = within step (r .arrayed .counts .assigns) (r .arrayed .counts .revokes) (r .arrayed .counts .users) ranged
 
     -- the step was tried over the arrays
-    module _ (none : stopped ≡ 0) {tried : Tried} (over : tried ≡ triedIn (p .rules .assigns) (p .rules .revokes) persons step) where
-      running : runOf (assignsIn p) (revokesIn p) (stateIn p (p .persons)) (r .said) ≡ ran (stateIn p persons)
+    module _ (none : stopped ≡ 0) {tried : Tried} (over : tried ≡ triedIn (wholeOf (p .rules)) persons step) where
+      running : runOf (policyOf (saidIn p)) (stateIn p (p .persons)) (r .said) ≡ ran (stateIn p persons)
       unfolding soFar
       running = r .run ∙ ap (λ (n : ℕ). soFar n (stateIn p persons)) none
 
       -- as over what they hold
-      tried-is : triedIn (assignsIn p) (revokesIn p) (stateIn p persons) step ≡ tried
-      unfolding assignsIn revokesIn stateIn
-      tried-is = tried-taken (p .rules .counts .assigns) (p .rules .counts .revokes) (p .rules .counts .users) (p .rules .assigns) (p .rules .revokes) persons step ranged ∙ sym over
+      tried-is : triedIn (policyOf (saidIn p)) (stateIn p persons) step ≡ tried
+      tried-is = tried-taken p persons step ranged ∙ sym over
 
-      may-is : possible (assignsIn p) (revokesIn p) (stateIn p persons) step ≡ tried .possible
-      unfolding assignsIn revokesIn stateIn
+      may-is : possible (policyOf (saidIn p)) (stateIn p persons) step ≡ tried .possible
+      unfolding policyOf saidIn stateIn
       may-is =
-          tried-possible (assignsIn p) (revokesIn p) (stateIn p persons) step
+          tried-possible (policyOf (saidIn p)) (stateIn p persons) step
           (within step (omega (arith, length-take (p .rules .counts .assigns) (p .rules .assigns), r .arrayed .assigns, r .arrayed .counts .assigns))
           (omega (arith, length-take (p .rules .counts .revokes) (p .rules .revokes), r .arrayed .revokes, r .arrayed .counts .revokes))
           (omega (arith, length-take (p .rules .counts .users) persons, r .wide, r .arrayed .counts .users)) ranged)
           ∙ ap (λ (t : Tried). t .possible) tried-is
 
-      after-is : after (assignsIn p) (revokesIn p) (stateIn p persons) step ≡ stateIn p (set persons (tried .place) (tried .user))
+      after-is : after (policyOf (saidIn p)) (stateIn p persons) step ≡ stateIn p (set persons (tried .place) (tried .user))
       unfolding stateIn
       after-is =
-          let below = tried-place (p .rules .counts .assigns) (p .rules .counts .revokes) (p .rules .counts .users) (p .rules .assigns) (p .rules .revokes) persons step ranged in
-          tried-after (assignsIn p) (revokesIn p) (stateIn p persons) step ∙ ap (λ (t : Tried). set (stateIn p persons) (t .place) (t .user)) tried-is
+          let below = tried-place (wholeOf (p .rules)) persons (p .rules .counts .assigns) (p .rules .counts .revokes) (p .rules .counts .users) step ranged in
+          tried-after (policyOf (saidIn p)) (stateIn p persons) step ∙ ap (λ (t : Tried). set (stateIn p persons) (t .place) (t .user)) tried-is
           ∙ sym (take-set-lt (p .rules .counts .users) persons (tried .place) (tried .user) (omega (arith, ap (λ (t : Tried). t .place) over, below)))
 
       pub step-goes : tried .possible ≡ true → Reached p text (stop + 1) (number + 1) (steps + 1) stopped (set persons (tried .place) (tried .user))
       unfolding soFar
       step-goes is =
           step-more stopped (set persons (tried .place) (tried .user)) (length-set persons (tried .place) (tried .user) ∙ r .wide)
-          (run-more (assignsIn p) (revokesIn p) (stateIn p (p .persons)) (r .said) step running (may-is ∙ is) ∙ ap ran after-is
+          (run-more (policyOf (saidIn p)) (stateIn p (p .persons)) (r .said) step running (may-is ∙ is) ∙ ap ran after-is
           ∙ sym (ap (λ (n : ℕ). soFar n (stateIn p (set persons (tried .place) (tried .user)))) none))
 
       pub step-breaks : tried .possible ≡ false → Reached p text (stop + 1) (number + 1) (steps + 1) (steps + 1) persons
       unfolding soFar
       step-breaks is =
           step-more (steps + 1) persons (r .wide)
-          (run-breaks (assignsIn p) (revokesIn p) (stateIn p (p .persons)) (r .said) step [] running (may-is ∙ is)
+          (run-breaks (policyOf (saidIn p)) (stateIn p (p .persons)) (r .said) step [] running (may-is ∙ is)
           ∙ sym (ap (λ (n : ℕ). soFar n (stateIn p persons)) (add-one steps ∙ ap suc (r .counted))))

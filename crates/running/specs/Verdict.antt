@@ -7,7 +7,7 @@ use lib.ListN.{length}
 use Rattle.roles.specs.declared.RoleSet.{RoleSet}
 use Rattle.model.specs.Policy.{State}
 use Rattle.walking.specs.Texts.{Reading, read, refused}
-use Rattle.reading.specs.Policy.{Said}
+use Rattle.reading.specs.Policy.{Said, policyOf}
 use Rattle.steps.specs.declared.Found.{Found}
 use Rattle.steps.specs.Tests.{firstBad}
 use Rattle.steps.specs.Traces.{Ran, broken, ran, runOf}
@@ -27,7 +27,7 @@ ranVerdict steps goals (ran last) = lastVerdict steps (firstBad last goals)
 -- The text has been read: REFUSED, or its steps are tried from the initial holdings.
 unfoldable pub readVerdict : Said → Reading Traced → TraceVerdict
 readVerdict s (refused number line) = TraceVerdict.Refused number line
-readVerdict s (read t) = ranVerdict (length (t .steps)) (s .goals) (runOf (s .assigns) (s .revokes) (s .holdings) (t .steps))
+readVerdict s (read t) = ranVerdict (length (t .steps)) (s .goals) (runOf (policyOf s) (s .holdings) (t .steps))
 
 -- The verdict on a trace text over what a policy text says.
 unfoldable pub traceVerdict : Said → List ℕ → TraceVerdict

@@ -1,6 +1,7 @@
 // The verdict on a trace: every line is read, every step tried, and the last state judged.
 ghost use mathlib.Core.Path.{_≡_};
-ghost use Rattle.steps.specs.Tests.{mayAssign, mayRevoke, withTarget, withoutTarget};
+ghost use Rattle.model.specs.Policy.{withRole, withoutRole};
+ghost use Rattle.steps.specs.Tests.{mayAssign, mayRevoke};
 ghost use Rattle.running.specs.Verdict.{endVerdict, traceVerdict};
 ghost use Rattle.running.specs.Layout.{arrays, Counted, saidIn};
 use model::Assign;
@@ -10,10 +11,8 @@ use reading::policy::Rules;
 use steps::Found;
 use steps::Step;
 use steps::first_bad;
-use steps::given;
 use steps::may_assign;
 use steps::may_revoke;
-use steps::taken;
 use traces::TraceLine;
 use traces::code;
 use traces::read_line;
@@ -39,23 +38,23 @@ struct Tried {
 
 // An assign step by the rule, on the user at a place.
 fn try_assign(rule: Assign, actor: Person, user: Person, place: usize) -> Tried
-    ensures { λ r. ⌜ (r .possible ≡ mayAssign rule actor user) × (r .place ≡ place) × (r .user ≡ withTarget rule user) ⌝ }
+    ensures { λ r. ⌜ (r .possible ≡ mayAssign rule actor user) × (r .place ≡ place) × (r .user ≡ withRole user (rule .target)) ⌝ }
 {
     Tried {
         possible: may_assign(rule, actor, user),
         place,
-        user: given(rule, user),
+        user: user.with_role(rule.target),
     }
 }
 
 // A revoke step by the rule, on the user at a place.
 fn try_revoke(rule: Revoke, actor: Person, user: Person, place: usize) -> Tried
-    ensures { λ r. ⌜ (r .possible ≡ mayRevoke rule actor user) × (r .place ≡ place) × (r .user ≡ withoutTarget rule user) ⌝ }
+    ensures { λ r. ⌜ (r .possible ≡ mayRevoke rule actor user) × (r .place ≡ place) × (r .user ≡ withoutRole user (rule .target)) ⌝ }
 {
     Tried {
         possible: may_revoke(rule, actor, user),
         place,
-        user: taken(rule, user),
+        user: user.without_role(rule.target),
     }
 }
 

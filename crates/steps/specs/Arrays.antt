@@ -8,31 +8,31 @@ use lib.Seq.{getD-take}
 use Rattle.model.specs.declared.Assign.{Assign}
 use Rattle.model.specs.declared.Revoke.{Revoke}
 use Rattle.model.specs.declared.Person.{Person}
-use Rattle.model.specs.Policy.{State, nobody, person, holding, granted, revoked}
+use Rattle.model.specs.Policy.{Policy, State, nobody, person, withRole, withoutRole, granted, revoked}
 use Rattle.steps.specs.declared.Step.{Step as TraceStep}
-use Rattle.steps.specs.Tests.{mayAssign, mayRevoke, withTarget, withoutTarget}
+use Rattle.steps.specs.Tests.{mayAssign, mayRevoke}
 use Rattle.steps.specs.Traces.{assignAt, revokeAt, possible, after}
 
 -- ---- a step whose actor, rule and user are in range
 
-module _ (assigns : List Assign) (revokes : List Revoke) (σ : State) (actor rule user : ℕ) where
-  pub assign-may : rule < length assigns → actor < length σ → user < length σ
-      → possible assigns revokes σ (TraceStep.Assign actor rule user) ≡ mayAssign (assignAt assigns rule) (person σ actor) (person σ user)
+module _ (P : Policy) (σ : State) (actor rule user : ℕ) where
+  pub assign-may : rule < length (P .assigns) → actor < length σ → user < length σ
+      → possible P σ (TraceStep.Assign actor rule user) ≡ mayAssign (assignAt (P .assigns) rule) (person σ actor) (person σ user)
   unfolding possible
-  assign-may a b c = rw (lt-ltb rule (length assigns) a, lt-ltb actor (length σ) b, lt-ltb user (length σ) c)
+  assign-may a b c = rw (lt-ltb rule (length (P .assigns)) a, lt-ltb actor (length σ) b, lt-ltb user (length σ) c)
 
-  pub revoke-may : rule < length revokes → actor < length σ → user < length σ
-      → possible assigns revokes σ (TraceStep.Revoke actor rule user) ≡ mayRevoke (revokeAt revokes rule) (person σ actor) (person σ user)
+  pub revoke-may : rule < length (P .revokes) → actor < length σ → user < length σ
+      → possible P σ (TraceStep.Revoke actor rule user) ≡ mayRevoke (revokeAt (P .revokes) rule) (person σ actor) (person σ user)
   unfolding possible
-  revoke-may a b c = rw (lt-ltb rule (length revokes) a, lt-ltb actor (length σ) b, lt-ltb user (length σ) c)
+  revoke-may a b c = rw (lt-ltb rule (length (P .revokes)) a, lt-ltb actor (length σ) b, lt-ltb user (length σ) c)
 
   -- the user's record is the one that changes
-  pub assign-after : after assigns revokes σ (TraceStep.Assign actor rule user) ≡ set σ user (withTarget (assignAt assigns rule) (person σ user))
-  unfolding after granted holding withTarget
+  pub assign-after : after P σ (TraceStep.Assign actor rule user) ≡ set σ user (withRole (person σ user) (assignAt (P .assigns) rule .target))
+  unfolding after granted
   assign-after = refl
 
-  pub revoke-after : after assigns revokes σ (TraceStep.Revoke actor rule user) ≡ set σ user (withoutTarget (revokeAt revokes rule) (person σ user))
-  unfolding after revoked holding withoutTarget
+  pub revoke-after : after P σ (TraceStep.Revoke actor rule user) ≡ set σ user (withoutRole (person σ user) (revokeAt (P .revokes) rule .target))
+  unfolding after revoked
   revoke-after = refl
 
 -- ---- a state and rules that are the first elements of arrays

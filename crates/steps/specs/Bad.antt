@@ -10,17 +10,13 @@ use native.Mathlib.Omega.{arith}
 use Rattle.roles.specs.declared.RoleSet.{RoleSet}
 use Rattle.roles.specs.Sets.{emptySet, includes}
 use Rattle.roles.specs.Members.{Within, Sized, includes-within}
+use Rattle.roles.specs.Joined.{within-exact}
 use Rattle.model.specs.declared.Person.{Person}
 use Rattle.model.specs.Policy.{L, State, nobody, person, Present, HoldsAll, Bad}
-use Rattle.rules.specs.Joined.{within-exact}
 use Rattle.steps.specs.declared.Found.{Found}
 use Rattle.steps.specs.First.{first, Earliest, Nowhere, look, first-some, first-none}
 use Rattle.steps.specs.Places.{at-inside, at-stands, stands-at, at-listed, listed-at}
 use Rattle.steps.specs.Tests.{lowestGoal, ownGoal, badPerson, goalOf, firstBad}
-
--- The sets of every goal are words of 64 bits, as those of every goal that a program holds.
-pub record SizedGoals (goals : List RoleSet) : Type 0 where
-  pub sized : {goal : RoleSet} → Listed goal goals → Sized goal
 
 -- The goal at a place of the list. Past its end stands the empty set, which is no goal.
 unfoldable pub goalAt : List RoleSet → ℕ → RoleSet
@@ -66,12 +62,12 @@ refuted : (a : Bool) → a ≡ false ↔ (a ≡ true → ⊥)
 refuted true = (λ e h. false≢true (sym e), λ none. absurd (none refl))
 refuted false = (λ e h. false≢true h, λ none. refl)
 
-module _ {goals : List RoleSet} (sizes : SizedGoals goals) where
+module _ {goals : List RoleSet} (sized : (goal : RoleSet) → Listed goal goals → Sized goal) where
   -- ---- a person
 
   -- the goal at a place lies within the roles exactly when the test says so
   whole-exact : (roles : RoleSet) (goal : ℕ) → goal < length goals → includes roles (goalAt goals goal) ≡ true ↔ Within (goalAt goals goal) roles
-  whole-exact roles goal inside = within-exact roles (sizes .sized (goal-listed goals goal inside))
+  whole-exact roles goal inside = within-exact roles (sized _ (goal-listed goals goal inside))
 
   -- The lowest goal's number is that of a place exactly when the goal there is the lowest.
   pub lowest-exact : (roles : RoleSet) (goal : ℕ) → lowestGoal goals roles ≡ suc goal ↔ Lowest goals roles goal
@@ -97,7 +93,7 @@ module _ {goals : List RoleSet} (sizes : SizedGoals goals) where
   lowest-none roles = (
     λ e goal listed within.
         let (place, at) = listed-at listed in
-        refuted _ .0 (first-none (includes roles) emptySet goals .0 e .fails place (at-inside at)) (rw (at-stands emptySet at) (within-exact roles (sizes .sized listed) .1 within)),
+        refuted _ .0 (first-none (includes roles) emptySet goals .0 e .fails place (at-inside at)) (rw (at-stands emptySet at) (within-exact roles (sized goal listed) .1 within)),
     λ none. first-none (includes roles) emptySet goals .1 (record { fails = λ place lt. refuted _ .1 (λ e. none _ (at-listed (stands-at emptySet goals place lt)) (includes-within _ roles e)) }),
   )
 

@@ -5,9 +5,7 @@ use mathlib.Core.List.{List, [], _∷_, _++_}
 use mathlib.Core.Path.{_≡_, refl, sym, ap, _∙_}
 use lib.ListN.{length}
 use native.Mathlib.Omega.{arith}
-use Rattle.model.specs.declared.Assign.{Assign}
-use Rattle.model.specs.declared.Revoke.{Revoke}
-use Rattle.model.specs.Policy.{State}
+use Rattle.model.specs.Policy.{Policy, State}
 use Rattle.steps.specs.declared.Step.{Step as TraceStep}
 use Rattle.steps.specs.Traces.{possible, after, Ran, broken, ran, later, runOf}
 
@@ -51,38 +49,38 @@ unfolding laterBy later
 by-broken zero = refl
 by-broken (suc n) = ap later (by-broken n)
 
-module _ (assigns : List Assign) (revokes : List Revoke) where
+module _ (P : Policy) where
   -- ---- the first step
 
-  pub run-on : (σ : State) (step : TraceStep) (steps : List TraceStep) → possible assigns revokes σ step ≡ true
-      → runOf assigns revokes σ (step ∷ steps) ≡ later (runOf assigns revokes (after assigns revokes σ step) steps)
+  pub run-on : (σ : State) (step : TraceStep) (steps : List TraceStep) → possible P σ step ≡ true
+      → runOf P σ (step ∷ steps) ≡ later (runOf P (after P σ step) steps)
   unfolding runOf
   run-on σ step steps e = rw e
 
-  pub run-off : (σ : State) (step : TraceStep) (steps : List TraceStep) → possible assigns revokes σ step ≡ false → runOf assigns revokes σ (step ∷ steps) ≡ broken 1
+  pub run-off : (σ : State) (step : TraceStep) (steps : List TraceStep) → possible P σ step ≡ false → runOf P σ (step ∷ steps) ≡ broken 1
   unfolding runOf
   run-off σ step steps e = rw e
 
   -- ---- more steps
 
-  joined : (σ : State) {τ : State} (steps more : List TraceStep) → runOf assigns revokes σ steps ≡ ran τ → runOf assigns revokes σ (steps ++ more) ≡ laterBy (length steps) (runOf assigns revokes τ more)
+  joined : (σ : State) {τ : State} (steps more : List TraceStep) → runOf P σ steps ≡ ran τ → runOf P σ (steps ++ more) ≡ laterBy (length steps) (runOf P τ more)
   unfolding runOf laterBy
-  joined σ [] more e = ap (λ (υ : State). runOf assigns revokes υ more) (ran-same e)
-  joined σ {τ} (step ∷ steps) more e = go (possible assigns revokes σ step) refl (joined (after assigns revokes σ step) steps more)
+  joined σ [] more e = ap (λ (υ : State). runOf P υ more) (ran-same e)
+  joined σ {τ} (step ∷ steps) more e = go (possible P σ step) refl (joined (after P σ step) steps more)
     where
-      go : (b : Bool) → possible assigns revokes σ step ≡ b
-          → (runOf assigns revokes (after assigns revokes σ step) steps ≡ ran τ → runOf assigns revokes (after assigns revokes σ step) (steps ++ more) ≡ laterBy (length steps) (runOf assigns revokes τ more))
-          → runOf assigns revokes σ (step ∷ (steps ++ more)) ≡ later (laterBy (length steps) (runOf assigns revokes τ more))
+      go : (b : Bool) → possible P σ step ≡ b
+          → (runOf P (after P σ step) steps ≡ ran τ → runOf P (after P σ step) (steps ++ more) ≡ laterBy (length steps) (runOf P τ more))
+          → runOf P σ (step ∷ (steps ++ more)) ≡ later (laterBy (length steps) (runOf P τ more))
       go true h rest = run-on σ step (steps ++ more) h ∙ ap later (rest (later-ran _ (sym (run-on σ step steps h) ∙ e)))
       go false h rest = absurd (broken-ran (sym (run-off σ step steps h) ∙ e))
 
   -- one step more, which is possible
-  pub run-more : (σ : State) {τ : State} (steps : List TraceStep) (step : TraceStep) → runOf assigns revokes σ steps ≡ ran τ → possible assigns revokes τ step ≡ true
-      → runOf assigns revokes σ (steps ++ (step ∷ [])) ≡ ran (after assigns revokes τ step)
+  pub run-more : (σ : State) {τ : State} (steps : List TraceStep) (step : TraceStep) → runOf P σ steps ≡ ran τ → possible P τ step ≡ true
+      → runOf P σ (steps ++ (step ∷ [])) ≡ ran (after P τ step)
   unfolding runOf later
-  run-more σ {τ} steps step e h = joined σ steps (step ∷ []) e ∙ ap (laterBy (length steps)) (run-on τ step [] h) ∙ by-ran (length steps) (after assigns revokes τ step)
+  run-more σ {τ} steps step e h = joined σ steps (step ∷ []) e ∙ ap (laterBy (length steps)) (run-on τ step [] h) ∙ by-ran (length steps) (after P τ step)
 
   -- one step more, which is not, and any others
-  pub run-breaks : (σ : State) {τ : State} (steps : List TraceStep) (step : TraceStep) (more : List TraceStep) → runOf assigns revokes σ steps ≡ ran τ → possible assigns revokes τ step ≡ false
-      → runOf assigns revokes σ (steps ++ (step ∷ more)) ≡ broken (suc (length steps))
+  pub run-breaks : (σ : State) {τ : State} (steps : List TraceStep) (step : TraceStep) (more : List TraceStep) → runOf P σ steps ≡ ran τ → possible P τ step ≡ false
+      → runOf P σ (steps ++ (step ∷ more)) ≡ broken (suc (length steps))
   run-breaks σ {τ} steps step more e h = joined σ steps (step ∷ more) e ∙ ap (laterBy (length steps)) (run-off τ step more h) ∙ by-broken (length steps)

@@ -4,7 +4,7 @@ use mathlib.Core.Bool.{Bool, not, _&&_, cond}
 use mathlib.Core.List.{List}
 use lib.Dec.{ltb}
 use Rattle.roles.specs.declared.RoleSet.{RoleSet}
-use Rattle.roles.specs.Sets.{hasRole, withOf, withoutOf, sharesRole, includes}
+use Rattle.roles.specs.Sets.{hasRole, sharesRole, includes}
 use Rattle.model.specs.declared.Assign.{Assign}
 use Rattle.model.specs.declared.Revoke.{Revoke}
 use Rattle.model.specs.declared.Person.{Person}
@@ -26,13 +26,6 @@ mayAssign rule actor user =
 -- An actor who holds the administrative role may take the target role from a user who holds it.
 unfoldable pub mayRevoke : Revoke → Person → Person → Bool
 mayRevoke rule actor user = hasRole (actor .roles) (rule .admin) && hasRole (user .roles) (rule .target)
-
--- The user with the target role; without it.
-unfoldable pub withTarget : Assign → Person → Person
-withTarget rule user = record { clearance = user .clearance; roles = withOf (user .roles) (rule .target) }
-
-unfoldable pub withoutTarget : Revoke → Person → Person
-withoutTarget rule user = record { clearance = user .clearance; roles = withoutOf (user .roles) (rule .target) }
 
 -- ---- a bad state
 

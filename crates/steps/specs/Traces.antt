@@ -1,34 +1,33 @@
--- Whole traces over the lists of a policy: which step is possible, the state after it, and going through the steps from a state.
+-- Whole traces over a policy: which step is possible, the state after it, and going through the steps from a state.
 use Prim.Native.Nat.{ℕ, suc}
 use mathlib.Core.Bool.{Bool, cond, _&&_}
 use mathlib.Core.List.{List, [], _∷_}
 use lib.Dec.{ltb}
 use lib.ListN.{length, getD}
-use Rattle.roles.specs.Sets.{emptySet}
 use Rattle.model.specs.declared.Assign.{Assign}
 use Rattle.model.specs.declared.Revoke.{Revoke}
-use Rattle.model.specs.Policy.{State, person, granted, revoked}
+use Rattle.model.specs.Policy.{Policy, noAssign, noRevoke, State, person, granted, revoked}
 use Rattle.steps.specs.declared.Step.{Step as TraceStep}
 use Rattle.steps.specs.Tests.{mayAssign, mayRevoke}
 
 -- The rule at a place of the list. Past its end stands what is no rule.
 unfoldable pub assignAt : List Assign → ℕ → Assign
-assignAt assigns rule = getD assigns rule (record { admin = 0; positive = emptySet; negative = emptySet; target = 0 })
+assignAt assigns rule = getD assigns rule noAssign
 
 unfoldable pub revokeAt : List Revoke → ℕ → Revoke
-revokeAt revokes rule = getD revokes rule (record { admin = 0; target = 0 })
+revokeAt revokes rule = getD revokes rule noRevoke
 
 -- The actor and the user are listed, the rule is one of its list, and the actor may use it on the user.
-unfoldable pub possible : List Assign → List Revoke → State → TraceStep → Bool
-possible assigns revokes σ (TraceStep.Assign actor rule user) =
-    ltb rule (length assigns) && ltb actor (length σ) && ltb user (length σ) && mayAssign (assignAt assigns rule) (person σ actor) (person σ user)
-possible assigns revokes σ (TraceStep.Revoke actor rule user) =
-    ltb rule (length revokes) && ltb actor (length σ) && ltb user (length σ) && mayRevoke (revokeAt revokes rule) (person σ actor) (person σ user)
+unfoldable pub possible : Policy → State → TraceStep → Bool
+possible P σ (TraceStep.Assign actor rule user) =
+    ltb rule (length (P .assigns)) && ltb actor (length σ) && ltb user (length σ) && mayAssign (assignAt (P .assigns) rule) (person σ actor) (person σ user)
+possible P σ (TraceStep.Revoke actor rule user) =
+    ltb rule (length (P .revokes)) && ltb actor (length σ) && ltb user (length σ) && mayRevoke (revokeAt (P .revokes) rule) (person σ actor) (person σ user)
 
 -- The state after the step: the user holds the rule's target; or holds it no more.
-unfoldable pub after : List Assign → List Revoke → State → TraceStep → State
-after assigns revokes σ (TraceStep.Assign actor rule user) = granted σ user (assignAt assigns rule .target)
-after assigns revokes σ (TraceStep.Revoke actor rule user) = revoked σ user (revokeAt revokes rule .target)
+unfoldable pub after : Policy → State → TraceStep → State
+after P σ (TraceStep.Assign actor rule user) = granted σ user (assignAt (P .assigns) rule .target)
+after P σ (TraceStep.Revoke actor rule user) = revoked σ user (revokeAt (P .revokes) rule .target)
 
 -- What going through the steps gives: the number, from 1, of the first that is not possible; or the last state.
 pub data Ran : Type 0 where
@@ -41,7 +40,7 @@ later (broken number) = broken (suc number)
 later (ran last) = ran last
 
 -- The steps in turn, from a state, up to the first that is not possible where it stands.
-unfoldable pub runOf : List Assign → List Revoke → State → List TraceStep → Ran
-runOf assigns revokes σ [] = ran σ
-runOf assigns revokes σ (step ∷ steps) =
-    cond (possible assigns revokes σ step) (later (runOf assigns revokes (after assigns revokes σ step) steps)) (broken 1)
+unfoldable pub runOf : Policy → State → List TraceStep → Ran
+runOf P σ [] = ran σ
+runOf P σ (step ∷ steps) =
+    cond (possible P σ step) (later (runOf P (after P σ step) steps)) (broken 1)

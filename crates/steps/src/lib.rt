@@ -2,7 +2,7 @@
 ghost use mathlib.Core.Path.{_≡_};
 ghost use Prim.Native.Nat.{min};
 ghost use lib.ListN.{take};
-ghost use Rattle.steps.specs.Tests.{mayAssign, mayRevoke, withTarget, withoutTarget, lowestGoal, ownGoal, firstBad};
+ghost use Rattle.steps.specs.Tests.{mayAssign, mayRevoke, lowestGoal, ownGoal, firstBad};
 use model::Assign;
 use model::Person;
 use model::Revoke;
@@ -43,26 +43,6 @@ pub fn may_revoke(rule: Revoke, actor: Person, user: Person) -> bool
     ensures { λ r. ⌜ r ≡ mayRevoke rule actor user ⌝ }
 {
     actor.roles.has(rule.admin) & user.roles.has(rule.target)
-}
-
-// The user with the target.
-pub fn given(rule: Assign, user: Person) -> Person
-    ensures { λ r. ⌜ r ≡ withTarget rule user ⌝ }
-{
-    Person {
-        clearance: user.clearance,
-        roles: user.roles.with(rule.target),
-    }
-}
-
-// The user without the target.
-pub fn taken(rule: Revoke, user: Person) -> Person
-    ensures { λ r. ⌜ r ≡ withoutTarget rule user ⌝ }
-{
-    Person {
-        clearance: user.clearance,
-        roles: user.roles.without(rule.target),
-    }
 }
 
 // The lesser of a count and its limit.

@@ -2,24 +2,16 @@
 use Prim.Native.Nat.{ℕ}
 use mathlib.Core.List.{List}
 use mathlib.Core.Path.{_≡_}
+use Rattle.model.specs.Sized.{SizedPolicy}
 use Rattle.walking.specs.Texts.{read}
-use Rattle.reading.specs.Policy.{Said, readPolicy}
+use Rattle.reading.specs.Policy.{Said, policyOf, readPolicy}
 use Rattle.reading.specs.Sound.{read-sound}
-use Rattle.steps.specs.Exact.{SizedRules}
-use Rattle.steps.specs.Bad.{SizedGoals}
-use Rattle.judging.specs.Exact.{SizedPolicy}
 
-pub read-sized : (text : List ℕ) {s : Said} → readPolicy text ≡ read s → SizedPolicy s
+pub read-sized : (text : List ℕ) {s : Said} → readPolicy text ≡ read s → SizedPolicy (policyOf s)
+unfolding policyOf
 read-sized text is =
     let sound = read-sound text is in
     record {
       assigns = λ {rule} m. let over = sound .assigns .each rule m in record { positive = over .positive .sized; negative = over .negative .sized };
       goals = λ {goal} m. sound .goals .each goal m .sized;
     }
-
--- The same of the rules and goals that a trace is run and judged by.
-pub read-rules-sized : (text : List ℕ) {s : Said} → readPolicy text ≡ read s → SizedRules (s .assigns)
-read-rules-sized text is = let sized = read-sized text is in record { sized = sized .assigns }
-
-pub read-goals-sized : (text : List ℕ) {s : Said} → readPolicy text ≡ read s → SizedGoals (s .goals)
-read-goals-sized text is = let sized = read-sized text is in record { sized = sized .goals }

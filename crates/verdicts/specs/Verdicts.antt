@@ -24,4 +24,4 @@ texts-laid policy typing {s} is over = read-laid (s .roles) typing over (read-so
 -- The verdict is accepted exactly when the typing is accepted.
 pub safe-exact : (policy typing : List ℕ) {s : Said} {t : Typed} → readPolicy policy ≡ read s → readTyping (s .roles) typing ≡ read t
     → typingVerdict s (tableOf t) ≡ TypingVerdict.Accepted ↔ Accepted (meaning (tableOf t)) (policyOf s) (s .holdings)
-safe-exact policy typing is over = typing-accepted (read-sized policy is) (texts-laid policy typing is over)
+safe-exact policy typing {s} is over = typing-accepted s (read-sized policy is) (texts-laid policy typing is over)

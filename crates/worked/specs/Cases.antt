@@ -10,7 +10,7 @@ use Rattle.closing.specs.Rounds.{linksOf, roundOf, samePair, roundsOf, closeOf}
 use Rattle.rules.specs.Tests.{implies, inconsistentRole, personPasses, holdsHigh, unopposedTarget, unneededTarget, targetSuits, assignPasses, revokePasses, goalPasses}
 use Rattle.model.specs.Meaning.{meaning}
 use Rattle.bytes.specs.Bytes.{indexOf}
-use Rattle.model.specs.Policy.{revoked}
+use Rattle.model.specs.Policy.{withoutRole, revoked}
 use Rattle.text.specs.Forms.{bytes, isNumber, decimal, numberOf}
 use Rattle.tables.specs.Names.{sameName}
 use Rattle.reading.specs.Policy.{policyOf}
@@ -23,7 +23,7 @@ use Rattle.traces.specs.TraceLines as trace
 use Rattle.traces.specs.TraceText as traces
 use Rattle.typings.specs.Kind.{isTyping}
 use Rattle.steps.specs.First.{first, firstFrom}
-use Rattle.steps.specs.Tests.{mayAssign, mayRevoke, withTarget, withoutTarget, lowestGoal, ownGoal, badPerson, goalOf, firstBad}
+use Rattle.steps.specs.Tests.{mayAssign, mayRevoke, lowestGoal, ownGoal, badPerson, goalOf, firstBad}
 use Rattle.steps.specs.Traces.{assignAt, revokeAt, possible, after, later, runOf}
 use Rattle.judging.specs.Verdict.{firstFrom as firstFailure, firstFailing, subjectOf, firstHolding, firstAssign, firstRevoke, firstGoal, failingPart, andThen, rulesSaid, allSaid, judgedRules, judgedTyping, typingVerdict, rulesVerdict, pinnedBelow, pinnedNames}
 use Rattle.running.specs.Verdict.{lastVerdict, ranVerdict, readVerdict, traceVerdict}
@@ -120,5 +120,5 @@ rows =
 
 -- Each row is answered so. P11 is a law by itself (`own-target-passes`).
 pub worked-cases : map (λ (r : Row). told (r .asked)) rows ≡ map (λ (r : Row). r .answer) rows
-unfolding reading judging padded indexOf revoked isNumber decimal first firstFrom numberOf inTurn typing.oneField typing.twoFields typing.lineOf typing.wellFormed typing.named typing.entry typing.judged typing.typingLine typings.untyped typings.added typings.answered typings.judgeLine typings.readTyping typings.tableOf trace.fourFields trace.lineOf trace.isStep trace.stepNamed trace.stepFormed trace.stepKnown trace.stepSaid trace.judged trace.traceLine traces.untraced traces.headerLine traces.laterLine traces.answered traces.judgeLine traces.readTrace isTyping mayAssign mayRevoke withTarget withoutTarget lowestGoal ownGoal badPerson goalOf firstBad assignAt revokeAt possible after later runOf lastVerdict ranVerdict readVerdict traceVerdict judgedAnswer typingAnswer traceAnswer evidenceAnswer answerAfter answerOf rulesVerdict sameName sameLists sameLabel samePerson sameDirectory whenRead answerIn whenSame whenAccepted mergeJudged mergeOutcome told
+unfolding reading judging padded indexOf withoutRole revoked isNumber decimal first firstFrom numberOf inTurn typing.oneField typing.twoFields typing.lineOf typing.wellFormed typing.named typing.entry typing.judged typing.typingLine typings.untyped typings.added typings.answered typings.judgeLine typings.readTyping typings.tableOf trace.fourFields trace.lineOf trace.isStep trace.stepNamed trace.stepFormed trace.stepKnown trace.stepSaid trace.judged trace.traceLine traces.untraced traces.headerLine traces.laterLine traces.answered traces.judgeLine traces.readTrace isTyping mayAssign mayRevoke lowestGoal ownGoal badPerson goalOf firstBad assignAt revokeAt possible after later runOf lastVerdict ranVerdict readVerdict traceVerdict judgedAnswer typingAnswer traceAnswer evidenceAnswer answerAfter answerOf rulesVerdict sameName sameLists sameLabel samePerson sameDirectory whenRead answerIn whenSame whenAccepted mergeJudged mergeOutcome told
 worked-cases = refl

@@ -7,7 +7,7 @@ use mathlib.Core.Bool.{false}
 use mathlib.Core.Logic.{⊎-elim}
 use mathlib.Core.Path.{_≡_, sym, ap, subst, _∙_}
 use native.Mathlib.Omega.{arith}
-use Rattle.model.specs.Policy.{nobody, person}
+use Rattle.model.specs.Policy.{noAssign, noRevoke, nobody, person}
 use Rattle.roles.specs.Sets.{emptySet}
 use Rattle.text.specs.Forms.{bytes}
 use Rattle.text.specs.Pieces.{part, sameBytes}
@@ -15,10 +15,10 @@ use Rattle.traces.specs.TraceText.{codeOf}
 use Rattle.traces.specs.TraceWalk.{trace-long, headless, no-line, line-open, line-more, line-bad}
 use Rattle.steps.specs.declared.Step.{Step}
 use Rattle.steps.specs.Traces.{assignAt, revokeAt}
-use Rattle.running.specs.Layout.{arrays}
+use Rattle.running.specs.Layout.{arrays, stateIn}
 use Rattle.running.specs.Range.{InRange, Ranged}
-use Rattle.running.specs.Trying.{triedIn, tried-place}
-use Rattle.running.specs.Reached.{Arrayed, Reached, stateIn, refused-is, reached-start, reached-last, step-passed, step-range, step-goes, step-breaks}
+use Rattle.running.specs.Trying.{triedIn, wholeOf, tried-place}
+use Rattle.running.specs.Reached.{Arrayed, Reached, refused-is, reached-start, reached-last, step-passed, step-range, step-goes, step-breaks}
 use Rattle.running.specs.declared.Tried.{Tried}
 use Rattle.running.specs.declared.TraceVerdict.{TraceVerdict}
 use Rattle.running.proofs.run_trace.Statement.{statement}
@@ -65,17 +65,17 @@ revoke-places c = subst (Ranged 256 256 64) (c .before .step2 .given .1) (step-p
 
 -- either way it is tried over the arrays, on one of the users
 abbrev tried-over : tie.Then6 Inv-loop μ-loop → Step → Tried
-tried-over c = triedIn (c .before .before .before .before .before .before .before .before .before .before .before .before .before .before .before .before .before .before .before .before .args .t4 .assigns) (c .before .before .before .before .before .before .before .before .before .before .before .before .before .before .before .before .before .before .before .before .args .t4 .revokes) (c .before .before .before .before .before .before .before .before .before .before .before .before .loop .persons)
+tried-over c = triedIn (wholeOf (c .before .before .before .before .before .before .before .before .before .before .before .before .before .before .before .before .before .before .before .before .args .t4)) (c .before .before .before .before .before .before .before .before .before .before .before .before .loop .persons)
 
 tried-said : (c : tie.At-match2-came Inv-loop μ-loop) → c .match2 .tried ≡ tried-over (c .before) (c .before .before .before .answer .given .0 .0)
-unfolding nobody emptySet assignAt revokeAt person triedIn
+unfolding nobody emptySet noAssign noRevoke assignAt revokeAt person triedIn
 tried-said c =
     ⊎-elim (λ w. w .7 ∙ (λ i. record { possible = w .6 .ensures .0 i; place = w .6 .ensures .1 i; user = w .6 .ensures .2 i }) ∙ sym (ap (tried-over (c .before)) (w .1 .given .1)))
     (λ w. w .7 ∙ (λ i. record { possible = w .6 .ensures .0 i; place = w .6 .ensures .1 i; user = w .6 .ensures .2 i }) ∙ sym (ap (tried-over (c .before)) (w .1 .given .1)))
     (c .match2 .came)
 
 stored-place : (c : tie.At-match2-came Inv-loop μ-loop) → c .match2 .tried .place < 64
-stored-place c = subst (λ (t : Tried). t .place < 64) (sym (tried-said c)) (tried-place 256 256 64 _ _ _ (c .before .before .before .answer .given .0 .0) (step-places (c .before .before)))
+stored-place c = subst (λ (t : Tried). t .place < 64) (sym (tried-said c)) (tried-place _ _ 256 256 64 (c .before .before .before .answer .given .0 .0) (step-places (c .before .before)))
 
 returns : tie.Need-returns Inv-loop μ-loop
 returns c = refused-is (arrayed-is (c .before .before .before)) _ (trace-long _ _ _ _ (c .if1 .taken))

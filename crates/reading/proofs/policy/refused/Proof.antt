@@ -3,7 +3,8 @@ use Prim.Native.Nat.{ℕ}
 use borrow.Author.Needs.{needs}
 use lib.ListN.{replicate}
 use mathlib.Core.Path.{ap}
-use Rattle.reading.specs.Policy.{nothing, countsOf, noAssign, noRevoke}
+use Rattle.model.specs.Policy.{noAssign, noRevoke}
+use Rattle.reading.specs.Policy.{nothing, countsOf}
 use Rattle.tables.specs.Padded.{padded}
 use Rattle.reading.specs.Rules.{laidWith, laidOut, refusedRules}
 use Rattle.reading.specs.declared.policy.Rules.{Rules}

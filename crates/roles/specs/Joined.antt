@@ -2,16 +2,9 @@
 use mathlib.Core.Bool.{Bool, true, false, not, _&&_, _||_, false≢true, and-eq-true-iff}
 use mathlib.Core.Logic.{_↔_, _⊎_, inl, inr, ⊎-elim}
 use mathlib.Core.Path.{_≡_, refl}
 use Rattle.roles.specs.declared.RoleSet.{RoleSet}
 use Rattle.roles.specs.Sets.{sharesRole, includes}
 use Rattle.roles.specs.Members.{Share, Within, Sized, includes-within, within-includes, shares-share, share-shares}
-use Rattle.rules.specs.Tests.{implies}
-
--- where the first holds, the second does
-pub implies-exact : (a b : Bool) → implies a b ≡ true ↔ (a ≡ true → b ≡ true)
-unfolding implies
-implies-exact true b = (λ e h. e, λ f. f refl)
-implies-exact false b = (λ e h. absurd (false≢true h), λ f. refl)
 
 -- one of the two holds
 pub either-exact : (a b : Bool) {A B : Type 0} → a ≡ true ↔ A → b ≡ true ↔ B → (a || b) ≡ true ↔ (A ⊎ B)
