@@ -1,4 +1,4 @@
-//! `kept CRATES`: the reference on the texts that are kept in CRATES/cases and CRATES/merges. The
+//! `kept CRATES`: the reference on the texts that are kept in CRATES/cases and CRATES/joint_cases. The
 //! words of each crate's `args` say what is asked, and its file `stdout` what has to be answered.
 //! Prints each difference, then `N cases, M differ`. Status 0 when there are cases and none differs.
 
@@ -153,7 +153,7 @@ fn main() {
     }
     let crates = PathBuf::from(&arguments[0]);
     let kinds: [(&str, usize, fn(&Kept, &[String]) -> Said); 2] =
-        [("cases", 3, check), ("merges", 7, joined)];
+        [("cases", 3, check), ("joint_cases", 7, joined)];
     let (mut cases, mut differ) = (0, 0);
     for (name, words, said) in kinds.iter() {
         let kept = Kept::of(crates.join(name));

@@ -122,4 +122,3 @@ judgeLine s line = inTurn bad (lineTests s line) (leads s (lineAsked s line .say
 -- The whole text: 10 where it is too long, 11 where `end` is missing or not the last line.
 unfoldable pub readPolicy : List ℕ → Reading Said
 readPolicy text = readText judgeLine 11 10 nothing text
-

@@ -1,8 +1,8 @@
 -- `main` comes nearer to its last argument with each case.
 use borrow.Author.Needs.{needs}
 use Prim.Native.Nat.{_-_, _≤_}
-use Rattle.merges.proofs.main.Statement.{statement}
-use Rattle.merges.proofs.main.Tie as tie
+use Rattle.joint_cases.proofs.main.Statement.{statement}
+use Rattle.joint_cases.proofs.main.Tie as tie
 
 abbrev Inv-loop : tie.InvT-loop
 Inv-loop count argument₀ argument = 7 ≤ argument
