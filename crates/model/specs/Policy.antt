@@ -119,7 +119,7 @@ pub data Runs (S : State → State → Type 0) (σ : State) : State → Type 0 w
   stay : Runs S σ σ
   next : {τ υ : State} → Runs S σ τ → S τ υ → Runs S σ υ
 
--- A run is one of the policy's steps.
+-- A run of a policy is any finite sequence of its steps.
 abbrev pub Run : Policy → State → State → Type 0
 Run P = Runs (Step P)
 
