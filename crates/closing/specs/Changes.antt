@@ -7,8 +7,9 @@ use native.Mathlib.Omega.{arith}
 use Rattle.roles.specs.Members.{_∈_}
 use Rattle.model.specs.declared.Typing.{Typing as Table}
 use Rattle.model.specs.Meaning.{meaning}
+use Rattle.sheets.specs.Turned.{turnedOf}
 use Rattle.closing.specs.declared.Pair.{Pair}
-use Rattle.closing.specs.Rounds.{linksFor, roundOf, samePair, changesOf}
+use Rattle.closing.specs.Rounds.{roundOf, samePair, changesOf}
 use Rattle.closing.specs.Steps.{changes-stop, changes-go-on}
 use Rattle.closing.specs.Clauses.{SizedPair, Fits, plus-below, round-contains, round-sized, round-sound}
 use Rattle.closing.specs.Growth.{other-pair, sizeTo, Under, size-most, more-or-same}
@@ -20,7 +21,7 @@ pub record Inner (t : Table) (roles : ℕ) : Type 0 where
 
 module _ {t : Table} {roles : ℕ} (fits : Fits t roles) (inner : Inner t roles) where
   -- a round adds no role past the others
-  round-under : {p : Pair} → Under roles p → Under roles (roundOf (linksFor t roles) p)
+  round-under : {p : Pair} → Under roles p → Under roles (roundOf (turnedOf t roles) p)
   round-under {p} under = round-sound fits {s = p .held} {u = p .absent} (record {
     contains-held = under .held;
     contains-absent = under .absent;
@@ -30,18 +31,18 @@ module _ {t : Table} {roles : ℕ} (fits : Fits t roles) (inner : Inner t roles)
   }) under
 
   -- each round that changes something takes the place of a role
-  room : (most : ℕ) {p : Pair} → SizedPair p → Under roles p → changesOf most (linksFor t roles) p + sizeTo roles p ≤ 2 * roles
+  room : (most : ℕ) {p : Pair} → SizedPair p → Under roles p → changesOf most (turnedOf t roles) p + sizeTo roles p ≤ 2 * roles
   unfolding changesOf
   room zero {p} sized under = omega (arith, size-most roles p)
-  room (suc most) {p} sized under = go (samePair p (roundOf (linksFor t roles) p)) refl (room most (round-sized fits sized) (round-under under))
+  room (suc most) {p} sized under = go (samePair p (roundOf (turnedOf t roles) p)) refl (room most (round-sized fits sized) (round-under under))
     where
-      go : (b : Bool) → samePair p (roundOf (linksFor t roles) p) ≡ b → changesOf most (linksFor t roles) (roundOf (linksFor t roles) p) + sizeTo roles (roundOf (linksFor t roles) p) ≤ 2 * roles
-          → changesOf (suc most) (linksFor t roles) p + sizeTo roles p ≤ 2 * roles
-      go true e rest = rw (changes-stop most (linksFor t roles) p e) (omega (arith, size-most roles p))
+      go : (b : Bool) → samePair p (roundOf (turnedOf t roles) p) ≡ b → changesOf most (turnedOf t roles) (roundOf (turnedOf t roles) p) + sizeTo roles (roundOf (turnedOf t roles) p) ≤ 2 * roles
+          → changesOf (suc most) (turnedOf t roles) p + sizeTo roles p ≤ 2 * roles
+      go true e rest = rw (changes-stop most (turnedOf t roles) p e) (omega (arith, size-most roles p))
       go false e rest =
-          rw (changes-go-on most (linksFor t roles) p e)
-          (⊎-elim (λ same. absurd (other-pair p (roundOf (linksFor t roles) p) e same)) (λ less. omega arith) (more-or-same roles sized (round-sized fits sized) (round-contains t roles p) (round-under under)))
+          rw (changes-go-on most (turnedOf t roles) p e)
+          (⊎-elim (λ same. absurd (other-pair p (roundOf (turnedOf t roles) p) e same)) (λ less. omega arith) (more-or-same roles sized (round-sized fits sized) (round-contains t roles p) (round-under under)))
 
   -- at most twice the number of roles
-  pub changes-most : (most : ℕ) {p : Pair} → SizedPair p → Under roles p → changesOf most (linksFor t roles) p ≤ 2 * roles
+  pub changes-most : (most : ℕ) {p : Pair} → SizedPair p → Under roles p → changesOf most (turnedOf t roles) p ≤ 2 * roles
   changes-most most sized under = omega (arith, room most sized under)

@@ -12,10 +12,10 @@ use Rattle.model.specs.declared.Typing.{Typing as Table}
 use Rattle.model.specs.Typing.{Typing}
 use Rattle.model.specs.Meaning.{meaning}
 use Rattle.model.specs.Closure.{Closed}
-use Rattle.sheets.specs.Turned.{setsOf, turnedOf}
+use Rattle.sheets.specs.Turned.{ownBelow, namedBelow, setsOf, turnedOf}
 use Rattle.sheets.specs.Members.{below-exact, sets-exact, union-sized, below-sized, sets-sized}
 use Rattle.closing.specs.declared.Pair.{Pair}
-use Rattle.closing.specs.Rounds.{linksOf, linksFor, roundOf}
+use Rattle.closing.specs.Rounds.{roundOf}
 
 -- every held role of the pair is one of the first kind, every absent role one of the second
 pub record Inside (P Q : ℕ → Type 0) (pair : Pair) : Type 0 where
@@ -54,68 +54,69 @@ pub record Applied (Γ : Typing) (stood new : Pair) : Type 0 where
 
 module _ (t : Table) (roles : ℕ) where
   pub needed-sized : (role : ℕ) → Sized (turnedOf t roles .needed role)
-  unfolding turnedOf
+  unfolding turnedOf namedBelow
   needed-sized role = below-sized (min roles 128) (λ other. hasRole (meaning t .plus other) role)
 
   pub opposed-sized : (role : ℕ) → Sized (turnedOf t roles .opposed role)
-  unfolding turnedOf
+  unfolding turnedOf namedBelow
   opposed-sized role = below-sized (min roles 128) (λ other. hasRole (meaning t .minus other) role)
 
   pub high-sized : Sized (turnedOf t roles .high)
   unfolding turnedOf
   high-sized = below-sized (min roles 128) (meaning t .label)
 
-module _ {t : Table} {roles : ℕ} (fits : Fits t roles) where
+-- sets of the first roles, with empty sets past them
+module _ {roles : ℕ} (limit : roles ≤ 128) (own : ℕ → RoleSet) (past : (role : ℕ) → roles ≤ role → own role ≡ emptySet) where
   -- a role whose set has a member is among the first roles
-  filled-below : {role other : ℕ} (s : RoleSet) → (roles ≤ role → s ≡ emptySet) → other ∈ s → role < min roles 128
-  filled-below {role} {other} s past m = go (decLt role roles)
+  filled-below : {role other : ℕ} → other ∈ own role → role < min roles 128
+  filled-below {role} m = go (decLt role roles)
     where
       go : Dec (role < roles) → role < min roles 128
-      go (yes lt) = omega (arith, fits .limit)
-      go (no ge) = absurd (empty-none (rw (past (omega arith)) at m))
+      go (yes lt) = omega arith
+      go (no ge) = absurd (empty-none (rw (past role (omega arith)) at m))
 
+  own-all : (role : ℕ) → ownBelow (min roles 128) own role ≡ own role
+  unfolding ownBelow
+  own-all role = go (decLt role (min roles 128))
+    where
+      go : Dec (role < min roles 128) → ownBelow (min roles 128) own role ≡ own role
+      go (yes lt) = rw (lt-ltb role (min roles 128) lt)
+      go (no ge) = rw (le-ltb role (min roles 128) (omega arith), past role (omega arith))
+
+  named-exact : (other role : ℕ) → role ∈ namedBelow (min roles 128) own other ↔ (other ∈ own role)
+  unfolding namedBelow
+  named-exact other role =
+      let below = below-exact (min roles 128) (omega arith) (λ r. hasRole (own r) other) role in
+      (λ m. record { found = below .0 m .1 }, λ m. below .1 (filled-below m, m .found))
+
+module _ {t : Table} {roles : ℕ} (fits : Fits t roles) where
   pub plus-below : {role other : ℕ} → other ∈ meaning t .plus role → role < min roles 128
-  plus-below {role} m = filled-below (meaning t .plus role) (fits .plus-past role) m
-
-  pub minus-below : {role other : ℕ} → other ∈ meaning t .minus role → role < min roles 128
-  minus-below {role} m = filled-below (meaning t .minus role) (fits .minus-past role) m
+  plus-below = filled-below (fits .limit) (meaning t .plus) (fits .plus-past)
 
   -- its own sets
   pub own-plus : (role : ℕ) → turnedOf t roles .plus role ≡ meaning t .plus role
   unfolding turnedOf
-  own-plus role = go (decLt role (min roles 128))
-    where
-      go : Dec (role < min roles 128) → turnedOf t roles .plus role ≡ meaning t .plus role
-      go (yes lt) = rw (lt-ltb role (min roles 128) lt)
-      go (no ge) = rw (le-ltb role (min roles 128) (omega arith), fits .plus-past role (omega (arith, fits .limit)))
+  own-plus = own-all (fits .limit) (meaning t .plus) (fits .plus-past)
 
   pub own-minus : (role : ℕ) → turnedOf t roles .minus role ≡ meaning t .minus role
   unfolding turnedOf
-  own-minus role = go (decLt role (min roles 128))
-    where
-      go : Dec (role < min roles 128) → turnedOf t roles .minus role ≡ meaning t .minus role
-      go (yes lt) = rw (lt-ltb role (min roles 128) lt)
-      go (no ge) = rw (le-ltb role (min roles 128) (omega arith), fits .minus-past role (omega (arith, fits .limit)))
+  own-minus = own-all (fits .limit) (meaning t .minus) (fits .minus-past)
 
   -- those that have it in their plus set
   pub needed-exact : (other role : ℕ) → role ∈ turnedOf t roles .needed other ↔ (other ∈ meaning t .plus role)
   unfolding turnedOf
-  needed-exact other role =
-      let below = below-exact (min roles 128) (omega arith) (λ r. hasRole (meaning t .plus r) other) role in
-      (λ m. record { found = below .0 m .1 }, λ m. below .1 (plus-below m, m .found))
+  needed-exact = named-exact (fits .limit) (meaning t .plus) (fits .plus-past)
 
   -- those that have it in their minus set
   pub opposed-exact : (other role : ℕ) → role ∈ turnedOf t roles .opposed other ↔ (other ∈ meaning t .minus role)
   unfolding turnedOf
-  opposed-exact other role =
-      let below = below-exact (min roles 128) (omega arith) (λ r. hasRole (meaning t .minus r) other) role in
-      (λ m. record { found = below .0 m .1 }, λ m. below .1 (minus-below m, m .found))
+  opposed-exact = named-exact (fits .limit) (meaning t .minus) (fits .minus-past)
 
   -- ---- a round
 
   -- goes no further than the clauses
-  pub round-sound : {s u : RoleSet} {P Q : ℕ → Type 0} → Closed (meaning t) s u P Q → {p : Pair} → Inside P Q p → Inside P Q (roundOf (linksFor t roles) p)
-  unfolding roundOf linksFor linksOf
+  pub round-sound : {s u : RoleSet} {P Q : ℕ → Type 0} → Closed (meaning t) s u P Q → {p : Pair} → Inside P Q p → Inside P Q (roundOf (turnedOf t roles) p)
+  unfolding roundOf
   round-sound {s} {u} {P} {Q} closed {p} old = record {
     held = λ {role} h.
         ⊎-elim (old .held) (λ m. let from = sets-exact (turnedOf t roles .plus) (p .held) role .0 m in closed .a (old .held (from .is-member)) (rw (own-plus (from .member)) at (from .brings)))
@@ -138,8 +139,8 @@ module _ {t : Table} {roles : ℕ} (fits : Fits t roles) where
           closed .c (needed-exact (from .member) role .0 (from .brings)) (old .absent (from .is-member))
 
   -- takes in what each clause asks
-  pub round-applied : (p : Pair) → Applied (meaning t) p (roundOf (linksFor t roles) p)
-  unfolding roundOf linksFor linksOf
+  pub round-applied : (p : Pair) → Applied (meaning t) p (roundOf (turnedOf t roles) p)
+  unfolding roundOf
   round-applied p = record {
     a = λ {role} {other} h m. union-right (p .held) (sets-exact (turnedOf t roles .plus) (p .held) other .1 (record { member = role; is-member = h; brings = rw (own-plus role) m }));
     b = λ {role} {other} h m.
@@ -150,16 +151,16 @@ module _ {t : Table} {roles : ℕ} (fits : Fits t roles) where
   }
 
   -- keeps words of 64 bits
-  pub round-sized : {p : Pair} → SizedPair p → SizedPair (roundOf (linksFor t roles) p)
-  unfolding roundOf linksFor linksOf
+  pub round-sized : {p : Pair} → SizedPair p → SizedPair (roundOf (turnedOf t roles) p)
+  unfolding roundOf
   round-sized {p} old = record {
     held = union-sized (old .held) (sets-sized (turnedOf t roles .plus) (λ role. rw (own-plus role) (fits .sized .plus role)) (p .held));
     absent = union-sized (union-sized (old .absent) (sets-sized (turnedOf t roles .minus) (λ role. rw (own-minus role) (fits .sized .minus role)) (p .held))) (sets-sized (turnedOf t roles .needed) (needed-sized t roles) (p .absent));
   }
 
 -- keeps the pair
-pub round-contains : (t : Table) (roles : ℕ) (p : Pair) → Contains p (roundOf (linksFor t roles) p)
-unfolding roundOf linksFor linksOf
+pub round-contains : (t : Table) (roles : ℕ) (p : Pair) → Contains p (roundOf (turnedOf t roles) p)
+unfolding roundOf
 round-contains t roles p = record {
   held = record { every = λ h. union-left _ h };
   absent = record { every = λ h. union-left _ (union-left _ h) };

@@ -1,8 +1,10 @@
 // The closure of a pair of role sets under a typing, by rounds until nothing changes.
 ghost use mathlib.Core.Path.{_≡_};
-ghost use Rattle.closing.specs.Rounds.{linksIn, samePair, closeOf};
+ghost use Rattle.sheets.specs.Words.{saidIn};
+ghost use Rattle.closing.specs.Rounds.{samePair, closeOf};
 ghost use Rattle.closing.specs.Fresh.{freshRound};
 use roles::RoleSet;
+use sheets::Column;
 use sheets::sets_of;
 
 // A pair of role sets: roles known to be held, roles known to be absent.
@@ -19,33 +21,22 @@ fn same(one: Pair, other: Pair) -> bool
 }
 
 // One round for the roles of the pair that are not in an earlier one: every clause applied at once to the pair as it stood.
-fn round<'a>(
-    plus: &'a [u64; 256],
-    minus: &'a [u64; 256],
-    needed: &'a [u64; 256],
-    before: Pair,
-    pair: Pair,
-) -> Pair
-    ensures { λ r. ⌜ r ≡ freshRound (linksIn (now (plus .entry)) (now (minus .entry)) (now (needed .entry))) before pair ⌝ }
+fn round(sheet: &[u64; 1026], before: Pair, pair: Pair) -> Pair
+    ensures { λ r. ⌜ r ≡ freshRound (saidIn (now (sheet .entry))) before pair ⌝ }
 {
     let held = pair.held.less(before.held);
     let absent = pair.absent.less(before.absent);
-    let barred = pair.absent.union(sets_of(minus, held));
+    let barred = pair.absent.union(sets_of(sheet, Column::Minus, held));
     Pair {
-        held: pair.held.union(sets_of(plus, held)),
-        absent: barred.union(sets_of(needed, absent)),
+        held: pair.held.union(sets_of(sheet, Column::Plus, held)),
+        absent: barred.union(sets_of(sheet, Column::Needed, absent)),
     }
 }
 
 // Rounds until nothing changes, each for the roles that are new. A round that changes something adds a role to one of the two sets,
 // so 256 are enough.
-pub fn close<'a>(
-    plus: &'a [u64; 256],
-    minus: &'a [u64; 256],
-    needed: &'a [u64; 256],
-    pair: Pair,
-) -> Pair
-    ensures { λ r. ⌜ r ≡ closeOf (linksIn (now (plus .entry)) (now (minus .entry)) (now (needed .entry))) pair ⌝ }
+pub fn close(sheet: &[u64; 1026], pair: Pair) -> Pair
+    ensures { λ r. ⌜ r ≡ closeOf (saidIn (now (sheet .entry))) pair ⌝ }
 {
     let none = RoleSet::empty();
     let mut before = Pair {
@@ -55,7 +46,7 @@ pub fn close<'a>(
     let mut now = pair;
     let mut changes: usize = 0;
     while changes < 256 {
-        let next = round(plus, minus, needed, before, now);
+        let next = round(sheet, before, now);
         if same(now, next) {
             return now;
         }

@@ -1,9 +1,7 @@
 // The verdict on a typing: holdings, assign rules, revoke rules and goals in this order, and the first that fails.
-ghost use mathlib.Core.List.{List};
 ghost use mathlib.Core.Path.{_≡_};
-ghost use Prim.Native.Nat.{ℕ, min};
+ghost use Prim.Native.Nat.{min};
 ghost use lib.ListN.{take};
-ghost use Rattle.roles.specs.declared.RoleSet.{RoleSet as Set};
 ghost use Rattle.sheets.specs.Words.{saidIn};
 ghost use Rattle.rules.specs.Tests.{personPasses, assignPasses, revokePasses, goalPasses};
 ghost use Rattle.judging.specs.Verdict.{firstFailing, policyIn, subjectIn, failingPart, rulesSaid, judgedRules, judgedTyping, partNumber, pinnedNames};
@@ -13,6 +11,7 @@ use model::Revoke;
 use model::Typing;
 use reading::policy::Rules;
 use roles::RoleSet;
+use roles::smaller;
 use sheets::lay_out;
 
 // Which part of a policy a typing fails on.
@@ -41,32 +40,16 @@ pub fn part_number(part: Part) -> u64
     }
 }
 
-// The smaller of a count and the length of the array that is counted.
-fn smaller(count: usize, length: usize) -> usize
-    ensures { λ r. ⌜ r ≡ min count length ⌝ }
-{
-    if count < length {
-        return count;
-    }
-    length
-}
-
 // The number, from 1, of the first user whose holdings fail; 0 where all pass.
-fn first_holding<'a>(
-    persons: [Person; 64],
-    count: usize,
-    plus: &'a [u64; 256],
-    minus: &'a [u64; 256],
-    high: RoleSet,
-) -> usize
-    ensures { λ r. ⌜ ((needed opposed : List ℕ) → r ≡ firstFailing (personPasses (saidIn (now (plus .entry)) (now (minus .entry)) needed opposed high)) (take (min count 64) persons)) ⌝ }
+fn first_holding(persons: [Person; 64], count: usize, sheet: &[u64; 1026]) -> usize
+    ensures { λ r. ⌜ r ≡ firstFailing (personPasses (saidIn (now (sheet .entry)))) (take (min count 64) persons) ⌝ }
 {
     let end = smaller(count, 64);
     let mut number = 0;
     while number < end {
         let next = persons[number];
         number += 1;
-        if !rules::person_passes(plus, minus, high, next) {
+        if !rules::person_passes(sheet, next) {
             return number;
         }
     }
@@ -74,23 +57,15 @@ fn first_holding<'a>(
 }
 
 // The number, from 1, of the first assign rule that fails; 0 where all pass.
-fn first_assign<'a>(
-    assigns: [Assign; 256],
-    count: usize,
-    plus: &'a [u64; 256],
-    minus: &'a [u64; 256],
-    needed: &'a [u64; 256],
-    opposed: &'a [u64; 256],
-    high: RoleSet,
-) -> usize
-    ensures { λ r. ⌜ r ≡ firstFailing (assignPasses (saidIn (now (plus .entry)) (now (minus .entry)) (now (needed .entry)) (now (opposed .entry)) high)) (take (min count 256) assigns) ⌝ }
+fn first_assign(assigns: [Assign; 256], count: usize, sheet: &[u64; 1026]) -> usize
+    ensures { λ r. ⌜ r ≡ firstFailing (assignPasses (saidIn (now (sheet .entry)))) (take (min count 256) assigns) ⌝ }
 {
     let end = smaller(count, 256);
     let mut number = 0;
     while number < end {
         let next = assigns[number];
         number += 1;
-        if !rules::assign_passes(plus, minus, needed, opposed, high, next) {
+        if !rules::assign_passes(sheet, next) {
             return number;
         }
     }
@@ -98,21 +73,15 @@ fn first_assign<'a>(
 }
 
 // The number, from 1, of the first revoke rule that fails; 0 where all pass.
-fn first_revoke<'a>(
-    revokes: [Revoke; 256],
-    count: usize,
-    plus: &'a [u64; 256],
-    minus: &'a [u64; 256],
-    needed: &'a [u64; 256],
-) -> usize
-    ensures { λ r. ⌜ ((opposed : List ℕ) (high : Set) → r ≡ firstFailing (revokePasses (saidIn (now (plus .entry)) (now (minus .entry)) (now (needed .entry)) opposed high)) (take (min count 256) revokes)) ⌝ }
+fn first_revoke(revokes: [Revoke; 256], count: usize, sheet: &[u64; 1026]) -> usize
+    ensures { λ r. ⌜ r ≡ firstFailing (revokePasses (saidIn (now (sheet .entry)))) (take (min count 256) revokes) ⌝ }
 {
     let end = smaller(count, 256);
     let mut number = 0;
     while number < end {
         let next = revokes[number];
         number += 1;
-        if !rules::revoke_passes(plus, minus, needed, next) {
+        if !rules::revoke_passes(sheet, next) {
             return number;
         }
     }
@@ -120,22 +89,15 @@ fn first_revoke<'a>(
 }
 
 // The number, from 1, of the first goal that fails; 0 where all pass.
-fn first_goal<'a>(
-    goals: [RoleSet; 32],
-    count: usize,
-    plus: &'a [u64; 256],
-    minus: &'a [u64; 256],
-    needed: &'a [u64; 256],
-    high: RoleSet,
-) -> usize
-    ensures { λ r. ⌜ ((opposed : List ℕ) → r ≡ firstFailing (goalPasses (saidIn (now (plus .entry)) (now (minus .entry)) (now (needed .entry)) opposed high)) (take (min count 32) goals)) ⌝ }
+fn first_goal(goals: [RoleSet; 32], count: usize, sheet: &[u64; 1026]) -> usize
+    ensures { λ r. ⌜ r ≡ firstFailing (goalPasses (saidIn (now (sheet .entry)))) (take (min count 32) goals) ⌝ }
 {
     let end = smaller(count, 32);
     let mut number = 0;
     while number < end {
         let next = goals[number];
         number += 1;
-        if !rules::goal_passes(plus, minus, needed, high, next) {
+        if !rules::goal_passes(sheet, next) {
             return number;
         }
     }
@@ -153,65 +115,43 @@ fn failing(part: Part, number: usize) -> TypingVerdict
 }
 
 // The verdict on the rules alone, by the typing's sheet: assign rules, then revoke rules.
-fn rules_verdict<'a>(
-    p: Rules,
-    plus: &'a [u64; 256],
-    minus: &'a [u64; 256],
-    needed: &'a [u64; 256],
-    opposed: &'a [u64; 256],
-    high: RoleSet,
-) -> TypingVerdict
-    ensures { λ r. ⌜ r ≡ rulesSaid (policyIn p) (saidIn (now (plus .entry)) (now (minus .entry)) (now (needed .entry)) (now (opposed .entry)) high) ⌝ }
+fn rules_verdict(p: Rules, sheet: &[u64; 1026]) -> TypingVerdict
+    ensures { λ r. ⌜ r ≡ rulesSaid (policyIn p) (saidIn (now (sheet .entry))) ⌝ }
 {
     let assigns = p.assigns;
     let revokes = p.revokes;
-    let first = first_assign(
-        assigns,
-        p.counts.assigns,
-        plus,
-        minus,
-        needed,
-        opposed,
-        high,
-    );
+    let first = first_assign(assigns, p.counts.assigns, sheet);
     let verdict = failing(Part::Assign, first);
     let TypingVerdict::Accepted = verdict else {
         return verdict;
     };
-    failing(
-        Part::Revoke,
-        first_revoke(revokes, p.counts.revokes, plus, minus, needed),
-    )
+    failing(Part::Revoke, first_revoke(revokes, p.counts.revokes, sheet))
 }
 
 // The verdict on the rules alone: assign rules, then revoke rules.
 pub fn judge_rules(p: Rules, t: Typing) -> TypingVerdict
     ensures { λ r. ⌜ r ≡ judgedRules (p .counts .roles) (policyIn p) t ⌝ }
 {
-    let s = lay_out(t, p.counts.roles);
-    rules_verdict(p, &s.plus, &s.minus, &s.needed, &s.opposed, s.high)
+    let sheet = lay_out(t, p.counts.roles);
+    rules_verdict(p, &sheet)
 }
 
 // The verdict on a typing, of people with their roles and of rules and goals: holdings, assign rules, revoke rules, then goals.
 pub fn judge_typing(persons: [Person; 64], p: Rules, t: Typing) -> TypingVerdict
     ensures { λ r. ⌜ r ≡ judgedTyping (subjectIn persons p) t ⌝ }
 {
-    let s = lay_out(t, p.counts.roles);
+    let sheet = lay_out(t, p.counts.roles);
     let goals = p.goals;
-    let high = s.high;
-    let first = first_holding(persons, p.counts.users, &s.plus, &s.minus, high);
+    let first = first_holding(persons, p.counts.users, &sheet);
     let holdings = failing(Part::Holdings, first);
     let TypingVerdict::Accepted = holdings else {
         return holdings;
     };
-    let rules = rules_verdict(p, &s.plus, &s.minus, &s.needed, &s.opposed, high);
+    let rules = rules_verdict(p, &sheet);
     let TypingVerdict::Accepted = rules else {
         return rules;
     };
-    failing(
-        Part::Goal,
-        first_goal(goals, p.counts.goals, &s.plus, &s.minus, &s.needed, high),
-    )
+    failing(Part::Goal, first_goal(goals, p.counts.goals, &sheet))
 }
 
 // How many names stand in all plus and minus sets of the roles.

@@ -1,5 +1,6 @@
 // A set of at most 128 roles in two 64-bit words: masks for union, meeting and inclusion, a shift for one role.
 ghost use mathlib.Core.Path.{_≡_};
+ghost use Prim.Native.Nat.{min};
 ghost use Rattle.roles.specs.Sets.{emptySet, singleOf, unionOf, meetOf, withOf, apartOf, withoutOf, hasRole, sharesRole, includes, sameSet, sizeOf, lowestRole};
 
 // Bit r of `low` is role r, bit r of `high` is role 64 + r.
@@ -131,4 +132,14 @@ impl RoleSet {
         }
         64 + u64::trailing_zeros(self.high) as usize
     }
+}
+
+// The smaller of two numbers.
+pub fn smaller(one: usize, other: usize) -> usize
+    ensures { λ r. ⌜ r ≡ min one other ⌝ }
+{
+    if one < other {
+        return one;
+    }
+    other
 }

@@ -18,7 +18,7 @@ use Rattle.model.specs.Meaning.{meaning}
 use Rattle.sheets.specs.Turned.{setsOf, turnedOf}
 use Rattle.sheets.specs.Members.{below-exact, sets-exact, sets-sized, union-sized, single-sized}
 use Rattle.closing.specs.declared.Pair.{Pair}
-use Rattle.closing.specs.Rounds.{linksOf, linksFor, closeOf}
+use Rattle.closing.specs.Rounds.{closeOf}
 use Rattle.closing.specs.Clauses.{SizedPair, Fits, own-plus, own-minus, needed-exact, needed-sized, opposed-exact, opposed-sized, high-sized}
 use Rattle.closing.specs.Least.{close-held, close-absent}
 use Rattle.closing.specs.Tests.{clash-test}
@@ -226,15 +226,15 @@ module _ {t : Table} {roles : ℕ} (laid : Laid t roles) where
       )
 
   -- the target suits the least pair, tested on the closure by rounds
-  pub closed-target-exact : {p : Pair} → SizedPair p → (target : ℕ) → targetSuits (turnedOf t roles) (closeOf (linksFor t roles) p) target ≡ true ↔ Suits (meaning t) (Held (meaning t) (p .held)) (Absent (meaning t) (p .held) (p .absent)) target
+  pub closed-target-exact : {p : Pair} → SizedPair p → (target : ℕ) → targetSuits (turnedOf t roles) (closeOf (turnedOf t roles) p) target ≡ true ↔ Suits (meaning t) (Held (meaning t) (p .held)) (Absent (meaning t) (p .held) (p .absent)) target
   closed-target-exact {p} sized target = (
-    λ test. suits-more (λ role. close-held (laid .fits) sized role .0) (λ role. close-absent (laid .fits) sized role .0) (target-exact (closeOf (linksFor t roles) p) target .0 test),
-    λ suits. target-exact (closeOf (linksFor t roles) p) target .1 (suits-more (λ role. close-held (laid .fits) sized role .1) (λ role. close-absent (laid .fits) sized role .1) suits),
+    λ test. suits-more (λ role. close-held (laid .fits) sized role .0) (λ role. close-absent (laid .fits) sized role .0) (target-exact (closeOf (turnedOf t roles) p) target .0 test),
+    λ suits. target-exact (closeOf (turnedOf t roles) p) target .1 (suits-more (λ role. close-held (laid .fits) sized role .1) (λ role. close-absent (laid .fits) sized role .1) suits),
   )
 
   -- An assign rule passes the test exactly when it passes.
   pub assign-exact : (rule : Assign) → SizedRule rule → assignPasses (turnedOf t roles) rule ≡ true ↔ AssignPasses closure (meaning t) rule
-  unfolding assignPasses closure linksFor linksOf
+  unfolding assignPasses closure
   assign-exact rule sized =
       let start : SizedPair (record { held = rule .positive; absent = withOf (rule .negative) (rule .target) }) = record { held = sized .positive; absent = with-sized (rule .target) (sized .negative) } in
       let three = either-exact _ _ (either-exact _ _ (inconsistent-exact (laid .fits) (rule .admin)) (clash-test (laid .fits) start)) (closed-target-exact start (rule .target)) in
@@ -260,15 +260,15 @@ revoke-exact {t} {roles} fits rule =
 
 -- A goal passes the test exactly when it passes.
 pub goal-exact : {t : Table} {roles : ℕ} → Laid t roles → (goal : RoleSet) → Sized goal → goalPasses (turnedOf t roles) goal ≡ true ↔ GoalPasses closure (meaning t) goal
-unfolding goalPasses closure linksFor linksOf
+unfolding goalPasses closure
 goal-exact {t} {roles} laid goal sized =
     let start : SizedPair (record { held = goal; absent = emptySet }) = record { held = sized; absent = empty-sized } in
-    let two = either-exact _ _ (high-exact laid (closeOf (linksFor t roles) (record { held = goal; absent = emptySet }) .held)) (clash-test (laid .fits) start) in (
+    let two = either-exact _ _ (high-exact laid (closeOf (turnedOf t roles) (record { held = goal; absent = emptySet }) .held)) (clash-test (laid .fits) start) in (
       λ test. ⊎-elim (λ high. GoalPasses.high (close-held (laid .fits) start (high .role) .0 (high .is-held)) (high .is-high)) GoalPasses.never (two .0 test),
       λ passes. two .1 (cases start passes),
     )
   where
     cases : SizedPair (record { held = goal; absent = emptySet }) → GoalPasses closure (meaning t) goal
-        → HeldHigh (meaning t) (λ role. role ∈ closeOf (linksFor t roles) (record { held = goal; absent = emptySet }) .held) ⊎ Clash (Held (meaning t) goal) (Absent (meaning t) goal emptySet)
+        → HeldHigh (meaning t) (λ role. role ∈ closeOf (turnedOf t roles) (record { held = goal; absent = emptySet }) .held) ⊎ Clash (Held (meaning t) goal) (Absent (meaning t) goal emptySet)
     cases start (GoalPasses.high {role = role} held high) = inl (record { role = role; is-held = close-held (laid .fits) start role .1 held; is-high = high })
     cases start (GoalPasses.never clash) = inr clash

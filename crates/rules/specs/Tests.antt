@@ -8,7 +8,7 @@ use Rattle.model.specs.declared.Revoke.{Revoke}
 use Rattle.model.specs.declared.Person.{Person}
 use Rattle.sheets.specs.Turned.{setsOf, Turned}
 use Rattle.closing.specs.declared.Pair.{Pair}
-use Rattle.closing.specs.Rounds.{linksOf, closeOf}
+use Rattle.closing.specs.Rounds.{closeOf}
 
 -- Where the first holds, the second does. Of two labels: the first is at most the second.
 unfoldable pub implies : Bool → Bool → Bool
@@ -54,7 +54,7 @@ targetSuits said pair target =
 -- added) has a role both held and absent; or all four hold.
 unfoldable pub assignPasses : Turned → Assign → Bool
 assignPasses said rule =
-    let pair = closeOf (linksOf said) (record { held = rule .positive; absent = withOf (rule .negative) (rule .target) }) in
+    let pair = closeOf said (record { held = rule .positive; absent = withOf (rule .negative) (rule .target) }) in
     inconsistentRole said (rule .admin) || sharesRole (pair .held) (pair .absent) || targetSuits said pair (rule .target)
 
 -- ---- revoke rules and goals
@@ -71,5 +71,5 @@ revokePasses said rule = inconsistentRole said (rule .admin) || unneededTarget s
 -- A goal passes when the closure of (goal, nothing) has a held role labelled H or a role both held and absent.
 unfoldable pub goalPasses : Turned → RoleSet → Bool
 goalPasses said goal =
-    let pair = closeOf (linksOf said) (record { held = goal; absent = emptySet }) in
+    let pair = closeOf said (record { held = goal; absent = emptySet }) in
     holdsHigh said (pair .held) || sharesRole (pair .held) (pair .absent)

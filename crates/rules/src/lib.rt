@@ -1,8 +1,5 @@
 // Each typing rule as a test of what a typing's sheet says: a person, an assign rule, a revoke rule, a goal.
-ghost use mathlib.Core.List.{List};
 ghost use mathlib.Core.Path.{_≡_};
-ghost use Prim.Native.Nat.{ℕ};
-ghost use Rattle.roles.specs.declared.RoleSet.{RoleSet as Set};
 ghost use Rattle.sheets.specs.Words.{saidIn};
 ghost use Rattle.rules.specs.Tests.{inconsistentRole, personPasses, targetSuits, assignPasses, revokePasses, goalPasses};
 use closing::Pair;
@@ -11,94 +8,69 @@ use model::Assign;
 use model::Person;
 use model::Revoke;
 use roles::RoleSet;
+use sheets::Column;
+use sheets::high_of;
 use sheets::set_of;
 use sheets::sets_of;
 
 // Whether the role's plus set and minus set share a role.
-fn inconsistent<'a>(plus: &'a [u64; 256], minus: &'a [u64; 256], role: usize) -> bool
-    ensures { λ r. ⌜ ((needed opposed : List ℕ) (high : Set) → r ≡ inconsistentRole (saidIn (now (plus .entry)) (now (minus .entry)) needed opposed high) role) ⌝ }
+fn inconsistent(sheet: &[u64; 1026], role: usize) -> bool
+    ensures { λ r. ⌜ r ≡ inconsistentRole (saidIn (now (sheet .entry))) role ⌝ }
 {
-    set_of(plus, role).shares(set_of(minus, role))
+    set_of(sheet, Column::Plus, role).shares(set_of(sheet, Column::Minus, role))
 }
 
 // Whether a person's holdings pass.
-pub fn person_passes<'a>(
-    plus: &'a [u64; 256],
-    minus: &'a [u64; 256],
-    high: RoleSet,
-    person: Person,
-) -> bool
-    ensures { λ r. ⌜ ((needed opposed : List ℕ) → r ≡ personPasses (saidIn (now (plus .entry)) (now (minus .entry)) needed opposed high) person) ⌝ }
+pub fn person_passes(sheet: &[u64; 1026], person: Person) -> bool
+    ensures { λ r. ⌜ r ≡ personPasses (saidIn (now (sheet .entry))) person ⌝ }
 {
+    let high = high_of(sheet);
     let roles = person.roles;
     (!high.shares(roles) | person.clearance)
-        & !sets_of(minus, roles).shares(roles)
-        & sets_of(plus, roles).within(roles)
+        & !sets_of(sheet, Column::Minus, roles).shares(roles)
+        & sets_of(sheet, Column::Plus, roles).within(roles)
 }
 
 // Whether the target role suits every user who holds all that is held and nothing that is absent.
-fn target_suits<'a>(
-    plus: &'a [u64; 256],
-    minus: &'a [u64; 256],
-    opposed: &'a [u64; 256],
-    high: RoleSet,
-    pair: Pair,
-    target: usize,
-) -> bool
-    ensures { λ r. ⌜ ((needed : List ℕ) → r ≡ targetSuits (saidIn (now (plus .entry)) (now (minus .entry)) needed (now (opposed .entry)) high) pair target) ⌝ }
+fn target_suits(sheet: &[u64; 1026], pair: Pair, target: usize) -> bool
+    ensures { λ r. ⌜ r ≡ targetSuits (saidIn (now (sheet .entry))) pair target ⌝ }
 {
+    let high = high_of(sheet);
     let held = pair.held;
     let absent = pair.absent;
     (!high.has(target) | high.shares(held))
-        & set_of(opposed, target).within(absent)
-        & set_of(minus, target).within(absent.without(target))
-        & set_of(plus, target).within(held.with(target))
+        & set_of(sheet, Column::Opposed, target).within(absent)
+        & set_of(sheet, Column::Minus, target).within(absent.without(target))
+        & set_of(sheet, Column::Plus, target).within(held.with(target))
 }
 
 // Whether an assign rule passes.
-pub fn assign_passes<'a>(
-    plus: &'a [u64; 256],
-    minus: &'a [u64; 256],
-    needed: &'a [u64; 256],
-    opposed: &'a [u64; 256],
-    high: RoleSet,
-    rule: Assign,
-) -> bool
-    ensures { λ r. ⌜ r ≡ assignPasses (saidIn (now (plus .entry)) (now (minus .entry)) (now (needed .entry)) (now (opposed .entry)) high) rule ⌝ }
+pub fn assign_passes(sheet: &[u64; 1026], rule: Assign) -> bool
+    ensures { λ r. ⌜ r ≡ assignPasses (saidIn (now (sheet .entry))) rule ⌝ }
 {
-    if inconsistent(plus, minus, rule.admin) {
+    if inconsistent(sheet, rule.admin) {
         return true;
     }
     let held = rule.positive;
     let absent = rule.negative.with(rule.target);
-    let pair = close(plus, minus, needed, Pair { held, absent });
-    pair.held.shares(pair.absent) | target_suits(plus, minus, opposed, high, pair, rule.target)
+    let pair = close(sheet, Pair { held, absent });
+    pair.held.shares(pair.absent) | target_suits(sheet, pair, rule.target)
 }
 
 // Whether a revoke rule passes.
-pub fn revoke_passes<'a>(
-    plus: &'a [u64; 256],
-    minus: &'a [u64; 256],
-    needed: &'a [u64; 256],
-    rule: Revoke,
-) -> bool
-    ensures { λ r. ⌜ ((opposed : List ℕ) (high : Set) → r ≡ revokePasses (saidIn (now (plus .entry)) (now (minus .entry)) (now (needed .entry)) opposed high) rule) ⌝ }
+pub fn revoke_passes(sheet: &[u64; 1026], rule: Revoke) -> bool
+    ensures { λ r. ⌜ r ≡ revokePasses (saidIn (now (sheet .entry))) rule ⌝ }
 {
     let target = rule.target;
-    inconsistent(plus, minus, rule.admin) | set_of(needed, target).within(RoleSet::single(target))
+    inconsistent(sheet, rule.admin)
+        | set_of(sheet, Column::Needed, target).within(RoleSet::single(target))
 }
 
 // Whether a goal passes.
-pub fn goal_passes<'a>(
-    plus: &'a [u64; 256],
-    minus: &'a [u64; 256],
-    needed: &'a [u64; 256],
-    high: RoleSet,
-    goal: RoleSet,
-) -> bool
-    ensures { λ r. ⌜ ((opposed : List ℕ) → r ≡ goalPasses (saidIn (now (plus .entry)) (now (minus .entry)) (now (needed .entry)) opposed high) goal) ⌝ }
+pub fn goal_passes(sheet: &[u64; 1026], goal: RoleSet) -> bool
+    ensures { λ r. ⌜ r ≡ goalPasses (saidIn (now (sheet .entry))) goal ⌝ }
 {
     let absent = RoleSet::empty();
-    let pair = close(plus, minus, needed, Pair { held: goal, absent });
-    high.shares(pair.held) | pair.held.shares(pair.absent)
+    let pair = close(sheet, Pair { held: goal, absent });
+    high_of(sheet).shares(pair.held) | pair.held.shares(pair.absent)
 }

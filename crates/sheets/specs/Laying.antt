@@ -5,96 +5,98 @@ use mathlib.Core.List.{List}
 use mathlib.Core.Path.{_≡_, refl, sym, ap, _∙_}
 use borrow.Author.Tests.{lt-ltb, le-ltb, eqb-true, eqb-false}
 use lib.Dec.{ltb, eqb}
-use lib.ListN.{replicate}
+use lib.ListN.{length, replicate}
 use native.Mathlib.Decide.{decLt}
+use native.Mathlib.Numerals.{add-one}
 use native.Mathlib.Omega.{arith}
 use Rattle.roles.specs.declared.RoleSet.{RoleSet}
 use Rattle.roles.specs.Sets.{emptySet, hasRole, singleOf}
 use Rattle.model.specs.declared.Typing.{Typing as Table}
 use Rattle.model.specs.Meaning.{meaning}
-use Rattle.sheets.specs.declared.Sheet.{Sheet}
-use Rattle.sheets.specs.Turned.{Turned, addIf, rolesBelow, turnedOf}
-use Rattle.sheets.specs.Words.{setIn, saidIn, turnedIn}
-use Rattle.sheets.specs.Places.{blank-table}
+use Rattle.sheets.specs.declared.Column.{Column}
+use Rattle.sheets.specs.Turned.{addIf, rolesBelow, ownBelow, namedBelow, turnedOf}
+use Rattle.sheets.specs.Words.{placeOf, setAt, setIn, saidIn, sheetOf}
+use Rattle.sheets.specs.Places.{Changed, blank-sheet, written, put-own, put-rest, put-size}
+use Rattle.sheets.specs.Whole.{sheet-whole}
 
--- ---- one role more: in a table of each role's own set, and among the roles that pass a test
+-- The rows of a sheet, and a set of roles labelled H, are what a typing says of the roles below a number.
+pub record LaidBelow (t : Table) (bound : ℕ) (sheet : List ℕ) (high : RoleSet) : Type 0 where
+  pub size : length sheet ≡ 1026
+  pub plus : (role : ℕ) → setIn sheet Column.Plus role ≡ ownBelow bound (meaning t .plus) role
+  pub minus : (role : ℕ) → setIn sheet Column.Minus role ≡ ownBelow bound (meaning t .minus) role
+  pub needed : (role : ℕ) → setIn sheet Column.Needed role ≡ namedBelow bound (meaning t .plus) role
+  pub opposed : (role : ℕ) → setIn sheet Column.Opposed role ≡ namedBelow bound (meaning t .minus) role
+  pub labelled : high ≡ rolesBelow bound (meaning t .label)
 
-module _ (own : ℕ → RoleSet) where
-  -- the set of a role below a bound
-  abbrev owned : ℕ → ℕ → RoleSet
-  owned bound role = cond (ltb role bound) (own role) emptySet
+-- ---- no role
 
-  owned-more : (role k : ℕ) → cond (eqb k role) (own role) (owned role k) ≡ owned (suc role) k
-  owned-more role k = go (eqb k role) refl (decLt k role)
-    where
-      go : (b : Bool) → eqb k role ≡ b → Dec (k < role) → cond b (own role) (owned role k) ≡ owned (suc role) k
-      go true e d =
-          let same = eqb-true k role e in
-          sym (ap (λ (b : Bool). cond b (own k) emptySet) (lt-ltb k (suc role) (omega arith)) ∙ ap own same)
-      go false e (yes lt) = ap (λ (b : Bool). cond b (own k) emptySet) (lt-ltb k role lt ∙ sym (lt-ltb k (suc role) (omega arith)))
-      go false e (no nl) =
-          let differs = eqb-false k role e in
-          ap (λ (b : Bool). cond b (own k) emptySet) (le-ltb k role (omega arith) ∙ sym (le-ltb k (suc role) (omega arith)))
-
--- below 128 the bound is the role itself, and then the next
-this-bound : (role : ℕ) → role < 128 → min role 128 ≡ role
-this-bound role fits = omega arith
-
-next-bound : (role : ℕ) → role < 128 → suc role ≡ min (role + 1) 128
-next-bound role fits = omega arith
-
-owned-next : (own : ℕ → RoleSet) (role : ℕ) → role < 128 → (table next : List ℕ) → ((k : ℕ) → setIn table k ≡ owned own (min role 128) k)
-    → ((k : ℕ) → setIn next k ≡ cond (eqb k role) (own role) (setIn table k)) → (k : ℕ) → setIn next k ≡ owned own (min (role + 1) 128) k
-owned-next own role fits table next so-far put k =
-    put k ∙ ap (cond (eqb k role) (own role)) (so-far k ∙ ap (λ (bound : ℕ). owned own bound k) (this-bound role fits)) ∙ owned-more own role k
-    ∙ ap (λ (bound : ℕ). owned own bound k) (next-bound role fits)
-
-roles-next : {s next : RoleSet} (test : ℕ → Bool) (role : ℕ) → role < 128 → s ≡ rolesBelow (min role 128) test → next ≡ addIf (test role) (singleOf role) s
-    → next ≡ rolesBelow (min (role + 1) 128) test
-unfolding rolesBelow
-roles-next test role fits so-far more =
-    more ∙ ap (addIf (test role) (singleOf role)) (so-far ∙ ap (λ (bound : ℕ). rolesBelow bound test) (this-bound role fits))
-    ∙ ap (λ (bound : ℕ). rolesBelow bound test) (next-bound role fits)
-
--- ---- the whole sheet
-
--- the sheet whose words are all 0
-abbrev pub blank : RoleSet → Sheet
-blank high = record { plus = replicate 256 0; minus = replicate 256 0; needed = replicate 256 0; opposed = replicate 256 0; high = high }
-
-pub laid-start : (t : Table) {high : RoleSet} → high ≡ emptySet → turnedIn (blank high) ≡ turnedOf t 0
-unfolding turnedIn saidIn turnedOf rolesBelow
-laid-start t none =
-    λ i. record {
-      plus = λ k. (blank-table 256 k ∙ nothing (meaning t .plus) k) i;
-      minus = λ k. (blank-table 256 k ∙ nothing (meaning t .minus) k) i;
-      needed = λ k. blank-table 256 k i;
-      opposed = λ k. blank-table 256 k i;
-      high = none i;
-    }
+pub laid-start : (t : Table) {high : RoleSet} → high ≡ emptySet → LaidBelow t 0 (replicate 1026 0) high
+unfolding ownBelow namedBelow rolesBelow setIn
+laid-start t none = record {
+  size = refl;
+  plus = λ role. blank-sheet 1026 (placeOf Column.Plus role) ∙ nothing (meaning t .plus) role;
+  minus = λ role. blank-sheet 1026 (placeOf Column.Minus role) ∙ nothing (meaning t .minus) role;
+  needed = λ role. blank-sheet 1026 (placeOf Column.Needed role);
+  opposed = λ role. blank-sheet 1026 (placeOf Column.Opposed role);
+  labelled = none;
+}
   where
-    nothing : (own : ℕ → RoleSet) (k : ℕ) → emptySet ≡ owned own 0 k
-    nothing own k = sym (ap (λ (b : Bool). cond b (own k) emptySet) (le-ltb k 0 (omega arith)))
+    nothing : (own : ℕ → RoleSet) (role : ℕ) → emptySet ≡ cond (ltb role 0) (own role) emptySet
+    nothing own role = sym (ap (λ (b : Bool). cond b (own role) emptySet) (le-ltb role 0 (omega arith)))
 
-module _ (t : Table) (role : ℕ) (sheet : Sheet) (so-far : turnedIn sheet ≡ turnedOf t role) where
-  pub laid-step : (next : Sheet) → role < 128
-      → ((k : ℕ) → setIn (next .plus) k ≡ cond (eqb k role) (meaning t .plus role) (setIn (sheet .plus) k))
-      → ((k : ℕ) → setIn (next .minus) k ≡ cond (eqb k role) (meaning t .minus role) (setIn (sheet .minus) k))
-      → ((k : ℕ) → setIn (next .needed) k ≡ addIf (hasRole (meaning t .plus role) k) (singleOf role) (setIn (sheet .needed) k))
-      → ((k : ℕ) → setIn (next .opposed) k ≡ addIf (hasRole (meaning t .minus role) k) (singleOf role) (setIn (sheet .opposed) k))
-      → next .high ≡ addIf (meaning t .label role) (singleOf role) (sheet .high) → turnedIn next ≡ turnedOf t (role + 1)
-  unfolding turnedIn saidIn turnedOf
-  laid-step next fits plus minus needed opposed high =
-      λ i. record {
-        plus = λ k. owned-next (meaning t .plus) role fits (sheet .plus) (next .plus) (λ j. ap (λ (w : Turned). w .plus j) so-far) plus k i;
-        minus = λ k. owned-next (meaning t .minus) role fits (sheet .minus) (next .minus) (λ j. ap (λ (w : Turned). w .minus j) so-far) minus k i;
-        needed = λ k. roles-next (λ other. hasRole (meaning t .plus other) k) role fits (ap (λ (w : Turned). w .needed k) so-far) (needed k) i;
-        opposed = λ k. roles-next (λ other. hasRole (meaning t .minus other) k) role fits (ap (λ (w : Turned). w .opposed k) so-far) (opposed k) i;
-        high = roles-next (meaning t .label) role fits (ap (λ (w : Turned). w .high) so-far) high i;
-      }
+-- ---- one role more
 
-  pub laid-end : (roles : ℕ) → role ≡ min roles 128 → turnedIn sheet ≡ turnedOf t roles
-  unfolding turnedOf
+own-more : (own : ℕ → RoleSet) (role k : ℕ) → cond (eqb k role) (own role) (ownBelow role own k) ≡ ownBelow (suc role) own k
+unfolding ownBelow
+own-more own role k = go (eqb k role) refl (decLt k role)
+  where
+    go : (b : Bool) → eqb k role ≡ b → Dec (k < role) → cond b (own role) (ownBelow role own k) ≡ ownBelow (suc role) own k
+    go true e d =
+        let same = eqb-true k role e in
+        sym (ap (λ (b : Bool). cond b (own k) emptySet) (lt-ltb k (suc role) (omega arith)) ∙ ap own same)
+    go false e (yes lt) = ap (λ (b : Bool). cond b (own k) emptySet) (lt-ltb k role lt ∙ sym (lt-ltb k (suc role) (omega arith)))
+    go false e (no nl) =
+        let differs = eqb-false k role e in
+        ap (λ (b : Bool). cond b (own k) emptySet) (le-ltb k role (omega arith) ∙ sym (le-ltb k (suc role) (omega arith)))
+
+module _ {t : Table} {role : ℕ} {sheet : List ℕ} {high : RoleSet} (so-far : LaidBelow t role sheet high) where
+  pub laid-step : {one two three four : List ℕ} {more : RoleSet}
+      → Changed Column.Plus (λ k old. cond (eqb k role) (meaning t .plus role) old) sheet one
+      → Changed Column.Minus (λ k old. cond (eqb k role) (meaning t .minus role) old) one two
+      → Changed Column.Needed (λ k. addIf (hasRole (meaning t .plus role) k) (singleOf role)) two three
+      → Changed Column.Opposed (λ k. addIf (hasRole (meaning t .minus role) k) (singleOf role)) three four
+      → more ≡ addIf (meaning t .label role) (singleOf role) high → LaidBelow t (role + 1) four more
+  unfolding namedBelow rolesBelow
+  laid-step a b c d labels = rw (add-one role) (record {
+    size = d .size ∙ c .size ∙ b .size ∙ a .size ∙ so-far .size;
+    plus = λ k.
+        d .rest Column.Plus refl k ∙ c .rest Column.Plus refl k ∙ b .rest Column.Plus refl k ∙ a .own k
+        ∙ ap (cond (eqb k role) (meaning t .plus role)) (so-far .plus k) ∙ own-more (meaning t .plus) role k;
+    minus = λ k.
+        d .rest Column.Minus refl k ∙ c .rest Column.Minus refl k ∙ b .own k
+        ∙ ap (cond (eqb k role) (meaning t .minus role)) (a .rest Column.Minus refl k ∙ so-far .minus k) ∙ own-more (meaning t .minus) role k;
+    needed = λ k.
+        d .rest Column.Needed refl k ∙ c .own k
+        ∙ ap (addIf (hasRole (meaning t .plus role) k) (singleOf role)) (b .rest Column.Needed refl k ∙ a .rest Column.Needed refl k ∙ so-far .needed k);
+    opposed = λ k.
+        d .own k
+        ∙ ap (addIf (hasRole (meaning t .minus role) k) (singleOf role)) (c .rest Column.Opposed refl k ∙ b .rest Column.Opposed refl k ∙ a .rest Column.Opposed refl k ∙ so-far .opposed k);
+    labelled = labels ∙ ap (addIf (meaning t .label role) (singleOf role)) (so-far .labelled);
+  })
+
+  -- ---- all of them, and the roles labelled H at their place
+
+  laid-said : (roles : ℕ) → role ≡ min roles 128 → saidIn (written sheet 0 high) ≡ turnedOf t roles
+  unfolding saidIn turnedOf setAt setIn placeOf
+  laid-said roles all = λ i. record {
+    plus = λ k. (put-rest sheet 0 high (placeOf Column.Plus k) (omega arith) ∙ so-far .plus k ∙ ap (λ (n : ℕ). ownBelow n (meaning t .plus) k) all) i;
+    minus = λ k. (put-rest sheet 0 high (placeOf Column.Minus k) (omega arith) ∙ so-far .minus k ∙ ap (λ (n : ℕ). ownBelow n (meaning t .minus) k) all) i;
+    needed = λ k. (put-rest sheet 0 high (placeOf Column.Needed k) (omega arith) ∙ so-far .needed k ∙ ap (λ (n : ℕ). namedBelow n (meaning t .plus) k) all) i;
+    opposed = λ k. (put-rest sheet 0 high (placeOf Column.Opposed k) (omega arith) ∙ so-far .opposed k ∙ ap (λ (n : ℕ). namedBelow n (meaning t .minus) k) all) i;
+    high = (put-own sheet 0 high (omega (arith, so-far .size)) ∙ so-far .labelled ∙ ap (λ (n : ℕ). rolesBelow n (meaning t .label)) all) i;
+  }
+
+  pub laid-end : (roles : ℕ) → role ≡ min roles 128 → (written sheet 0 high ≡ sheetOf t roles) × (saidIn (written sheet 0 high) ≡ turnedOf t roles)
   laid-end roles all =
-      let bound : min role 128 ≡ min roles 128 = omega arith in
-      so-far ∙ rw bound
+      let said = laid-said roles all in
+      (sheet-whole t roles (written sheet 0 high) (put-size sheet 0 high ∙ so-far .size) said, said)

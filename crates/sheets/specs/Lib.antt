@@ -5,6 +5,6 @@ pub mod Places
 pub mod Taking
 pub mod Joining
 pub mod Noting
-pub mod Laying
 pub mod Members
 pub mod Whole
+pub mod Laying

@@ -31,6 +31,14 @@ setsBelow (suc role) own members = addOwn (hasRole members role) own role (setsB
 unfoldable pub setsOf : (ℕ → RoleSet) → RoleSet → RoleSet
 setsOf own members = setsBelow 128 own members
 
+-- A role's own set, for roles below a number.
+unfoldable pub ownBelow : ℕ → (ℕ → RoleSet) → ℕ → RoleSet
+ownBelow bound own role = cond (ltb role bound) (own role) emptySet
+
+-- The roles below a number that have a role in their own set.
+unfoldable pub namedBelow : ℕ → (ℕ → RoleSet) → ℕ → RoleSet
+namedBelow bound own role = rolesBelow bound (λ other. hasRole (own other) role)
+
 -- For each role its plus set, its minus set, the roles that have it in their plus set and those that have it in their minus set; and
 -- the roles labelled H.
 pub record Turned : Type 0 where
@@ -43,9 +51,9 @@ pub record Turned : Type 0 where
 -- What a typing says of its first roles, of which there are at most 128.
 unfoldable pub turnedOf : Table → ℕ → Turned
 turnedOf t roles = record {
-  plus = λ role. cond (ltb role (min roles 128)) (meaning t .plus role) emptySet;
-  minus = λ role. cond (ltb role (min roles 128)) (meaning t .minus role) emptySet;
-  needed = λ role. rolesBelow (min roles 128) (λ other. hasRole (meaning t .plus other) role);
-  opposed = λ role. rolesBelow (min roles 128) (λ other. hasRole (meaning t .minus other) role);
+  plus = ownBelow (min roles 128) (meaning t .plus);
+  minus = ownBelow (min roles 128) (meaning t .minus);
+  needed = namedBelow (min roles 128) (meaning t .plus);
+  opposed = namedBelow (min roles 128) (meaning t .minus);
   high = rolesBelow (min roles 128) (meaning t .label);
 }

@@ -1,35 +1,63 @@
--- Sets in a table of words, two words for each role's set, and a sheet of four such tables.
+-- A sheet's words, two to a set: the roles labelled H, and then each role's row of four sets.
 use Prim.Native.Nat.{ℕ, zero, suc, _+_, _*_}
-use mathlib.Core.List.{List, [], _∷_, _++_}
+use mathlib.Core.List.{List, [], _∷_}
 use lib.ListN.{getD}
 use Rattle.roles.specs.declared.RoleSet.{RoleSet}
-use Rattle.sheets.specs.declared.Sheet.{Sheet}
 use Rattle.model.specs.declared.Typing.{Typing as Table}
+use Rattle.sheets.specs.declared.Column.{Column}
 use Rattle.sheets.specs.Turned.{Turned, turnedOf}
 
--- A role's set in a table; past the table, the empty set.
-unfoldable pub setIn : List ℕ → ℕ → RoleSet
-setIn table role = record { low = getD table (2 * role) 0; high = getD table (2 * role + 1) 0 }
+-- The columns by their number in a row.
+abbrev pub columnNumber : Column → ℕ
+columnNumber Column.Plus = 1
+columnNumber Column.Minus = 2
+columnNumber Column.Needed = 3
+columnNumber Column.Opposed = 4
 
--- What four tables and the roles labelled H say.
-unfoldable pub saidIn : List ℕ → List ℕ → List ℕ → List ℕ → RoleSet → Turned
-saidIn plus minus needed opposed high = record { plus = setIn plus; minus = setIn minus; needed = setIn needed; opposed = setIn opposed; high = high }
+-- The place of a role's set in a column; at place 0 stand the roles labelled H.
+unfoldable pub placeOf : Column → ℕ → ℕ
+placeOf column role = 4 * role + columnNumber column
+
+-- The set at a place; past the sheet, the empty set.
+unfoldable pub setAt : List ℕ → ℕ → RoleSet
+setAt sheet place = record { low = getD sheet (2 * place) 0; high = getD sheet (2 * place + 1) 0 }
+
+-- The roles labelled H.
+abbrev pub highIn : List ℕ → RoleSet
+highIn sheet = record { low = getD sheet 0 0; high = getD sheet 1 0 }
+
+-- A role's set in a column.
+unfoldable pub setIn : List ℕ → Column → ℕ → RoleSet
+setIn sheet column role = setAt sheet (placeOf column role)
 
 -- What a sheet says.
-unfoldable pub turnedIn : Sheet → Turned
-turnedIn sheet = saidIn (sheet .plus) (sheet .minus) (sheet .needed) (sheet .opposed) (sheet .high)
-
--- The words of the sets of the roles below a number.
-unfoldable pub wordsOf : (own : ℕ → RoleSet) (bound : ℕ) → List ℕ
-wordsOf own zero = []
-wordsOf own (suc role) = wordsOf own role ++ (own role .low ∷ own role .high ∷ [])
-
--- The sheet of a typing over its first roles: four tables of 128 sets, and the roles labelled H.
-unfoldable pub sheetOf : Table → ℕ → Sheet
-sheetOf t roles = record {
-  plus = wordsOf (turnedOf t roles .plus) 128;
-  minus = wordsOf (turnedOf t roles .minus) 128;
-  needed = wordsOf (turnedOf t roles .needed) 128;
-  opposed = wordsOf (turnedOf t roles .opposed) 128;
-  high = turnedOf t roles .high;
+unfoldable pub saidIn : List ℕ → Turned
+saidIn sheet = record {
+  plus = setIn sheet Column.Plus;
+  minus = setIn sheet Column.Minus;
+  needed = setIn sheet Column.Needed;
+  opposed = setIn sheet Column.Opposed;
+  high = highIn sheet;
 }
+
+-- The sets of the rows from a role on, one after the other.
+unfoldable pub rowsFrom : Turned → (role : ℕ) → ℕ → RoleSet
+rowsFrom said role zero = said .plus role
+rowsFrom said role (suc zero) = said .minus role
+rowsFrom said role (suc (suc zero)) = said .needed role
+rowsFrom said role (suc (suc (suc zero))) = said .opposed role
+rowsFrom said role (suc (suc (suc (suc place)))) = rowsFrom said (suc role) place
+
+-- The sets by their place: the roles labelled H, then the rows.
+unfoldable pub placed : Turned → ℕ → RoleSet
+placed said zero = said .high
+placed said (suc place) = rowsFrom said 0 place
+
+-- The words of so many sets.
+unfoldable pub wordsOf : (ℕ → RoleSet) → ℕ → List ℕ
+wordsOf sets zero = []
+wordsOf sets (suc count) = sets 0 .low ∷ sets 0 .high ∷ wordsOf (λ place. sets (suc place)) count
+
+-- The sheet of a typing over its first roles: the roles labelled H, and 128 rows of four sets.
+unfoldable pub sheetOf : Table → ℕ → List ℕ
+sheetOf t roles = wordsOf (placed (turnedOf t roles)) 513

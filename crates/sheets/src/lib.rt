@@ -1,33 +1,36 @@
-// A typing laid out in words, so that it can be lent: each role's sets, whose sets name the role, and the roles labelled H.
+// A typing laid out in words, so that it can be lent: the roles labelled H, each role's sets, and whose sets name the role.
 ghost use mathlib.Core.Path.{_≡_};
-ghost use Prim.Native.Nat.{ℕ, _<_, min};
+ghost use Prim.Native.Nat.{_≤_, _<_};
 ghost use mathlib.Core.Bool.{cond};
 ghost use lib.Dec.{eqb};
-ghost use lib.ListN.{length};
 ghost use Rattle.roles.specs.Sets.{hasRole, singleOf};
-ghost use Rattle.sheets.specs.Turned.{addIf, setsOf};
-ghost use Rattle.sheets.specs.Words.{setIn, sheetOf};
+ghost use Rattle.sheets.specs.Turned.{addIf, setsOf, turnedOf};
+ghost use Rattle.sheets.specs.Words.{columnNumber, highIn, setIn, saidIn, sheetOf};
+ghost use Rattle.sheets.specs.Places.{Changed};
 use model::Typing;
 use roles::RoleSet;
+use roles::smaller;
 
-// Four tables with two words for each role: its plus set, its minus set, the roles that have it in their plus set and those that
-// have it in their minus set; and the roles labelled H.
-pub struct Sheet {
-    pub plus: [u64; 256],
-    pub minus: [u64; 256],
-    pub needed: [u64; 256],
-    pub opposed: [u64; 256],
-    pub high: RoleSet,
+// A sheet is an array of words, two to a set: the roles labelled H, and then a row for each role, with its plus set, its minus set, the
+// roles that have it in their plus set and those that have it in their minus set.
+pub enum Column {
+    Plus,
+    Minus,
+    Needed,
+    Opposed,
 }
 
-// How many roles there are to go through: at most 128.
-fn limited(roles: usize) -> usize
-    ensures { λ r. ⌜ r ≡ min roles 128 ⌝ }
+// The column's number in a row.
+fn column_number(column: Column) -> usize
+    ensures { λ r. ⌜ r ≡ columnNumber column ⌝ }
+    ensures { λ r. ⌜ r ≤ 4 ⌝ }
 {
-    if roles < 128 {
-        return roles;
+    match column {
+        Column::Plus => 1,
+        Column::Minus => 2,
+        Column::Needed => 3,
+        Column::Opposed => 4,
     }
-    128
 }
 
 // The set with the roles of another where the test holds, and as it is where it does not.
@@ -40,22 +43,33 @@ fn add_if(test: bool, more: RoleSet, set: RoleSet) -> RoleSet
     set
 }
 
-// A role's set in a table; a number above 127 is no role and has the empty set.
-pub fn set_of(table: &[u64; 256], role: usize) -> RoleSet
-    ensures { λ r. ⌜ r ≡ setIn (now (table .entry)) role ⌝ }
+// The roles labelled H.
+pub fn high_of(sheet: &[u64; 1026]) -> RoleSet
+    ensures { λ r. ⌜ r ≡ highIn (now (sheet .entry)) ⌝ }
 {
-    let words: &[u64] = table;
+    RoleSet {
+        low: sheet[0],
+        high: sheet[1],
+    }
+}
+
+// A role's set in a column; a number above 127 is no role and has the empty set.
+pub fn set_of(sheet: &[u64; 1026], column: Column, role: usize) -> RoleSet
+    ensures { λ r. ⌜ r ≡ setIn (now (sheet .entry)) column role ⌝ }
+{
+    let words: &[u64] = sheet;
     if role < 128 {
-        let low = words[2 * role];
-        let high = words[2 * role + 1];
+        let at = 2 * (4 * role + column_number(column));
+        let low = words[at];
+        let high = words[at + 1];
         return RoleSet { low, high };
     }
     RoleSet::empty()
 }
 
-// All roles of the sets that the members have in a table.
-pub fn sets_of(table: &[u64; 256], members: RoleSet) -> RoleSet
-    ensures { λ r. ⌜ r ≡ setsOf (setIn (now (table .entry))) members ⌝ }
+// All roles of the sets that the members have in a column.
+pub fn sets_of(sheet: &[u64; 1026], column: Column, members: RoleSet) -> RoleSet
+    ensures { λ r. ⌜ r ≡ setsOf (setIn (now (sheet .entry)) column) members ⌝ }
 {
     let mut all = RoleSet::empty();
     let mut left = members;
@@ -64,26 +78,25 @@ pub fn sets_of(table: &[u64; 256], members: RoleSet) -> RoleSet
         if 128 <= role {
             return all;
         }
-        all = all.union(set_of(table, role));
+        all = all.union(set_of(sheet, column, role));
         left = left.without(role);
     }
 }
 
-// Puts a role's set into a table.
-fn put(table: &mut [u64; 256], role: usize, set: RoleSet)
+// Puts a role's set into a column.
+fn put(sheet: &mut [u64; 1026], column: Column, role: usize, set: RoleSet)
     requires { ⌜ role < 128 ⌝ }
-    ensures { λ r. ⌜ length (now (table .exit)) ≡ length (now (table .entry)) ⌝ }
-    ensures { λ r. ⌜ ((other : ℕ) → setIn (now (table .exit)) other ≡ cond (eqb other role) set (setIn (now (table .entry)) other)) ⌝ }
+    ensures { λ r. ⌜ Changed column (λ other old. cond (eqb other role) set old) (now (sheet .entry)) (now (sheet .exit)) ⌝ }
 {
-    let words: &mut [u64] = table;
-    words[2 * role] = set.low;
-    words[2 * role + 1] = set.high;
+    let words: &mut [u64] = sheet;
+    let at = 2 * (4 * role + column_number(column));
+    words[at] = set.low;
+    words[at + 1] = set.high;
 }
 
-// Adds a role to the set that each of the members has in a table.
-fn note(table: &mut [u64; 256], members: RoleSet, role: usize)
-    ensures { λ r. ⌜ length (now (table .exit)) ≡ length (now (table .entry)) ⌝ }
-    ensures { λ r. ⌜ ((other : ℕ) → setIn (now (table .exit)) other ≡ addIf (hasRole members other) (singleOf role) (setIn (now (table .entry)) other)) ⌝ }
+// Adds a role to the set that each of the members has in a column.
+fn note(sheet: &mut [u64; 1026], column: Column, members: RoleSet, role: usize)
+    ensures { λ r. ⌜ Changed column (λ other. addIf (hasRole members other) (singleOf role)) (now (sheet .entry)) (now (sheet .exit)) ⌝ }
 {
     let mut left = members;
     loop {
@@ -91,34 +104,32 @@ fn note(table: &mut [u64; 256], members: RoleSet, role: usize)
         if 128 <= other {
             return;
         }
-        let named = set_of(table, other).with(role);
-        put(table, other, named);
+        let named = set_of(sheet, column, other).with(role);
+        put(sheet, column, other, named);
         left = left.without(other);
     }
 }
 
-// The sheet of a typing over its first roles.
-pub fn lay_out(t: Typing, roles: usize) -> Sheet
+// The sheet of a typing over its first roles, which says what the typing says of them, turned round.
+pub fn lay_out(t: Typing, roles: usize) -> [u64; 1026]
     ensures { λ r. ⌜ r ≡ sheetOf t roles ⌝ }
+    ensures { λ r. ⌜ saidIn r ≡ turnedOf t roles ⌝ }
 {
-    let count = limited(roles);
-    let mut sheet = Sheet {
-        plus: [0u64; 256],
-        minus: [0u64; 256],
-        needed: [0u64; 256],
-        opposed: [0u64; 256],
-        high: RoleSet::empty(),
-    };
+    let count = smaller(roles, 128);
+    let mut sheet = [0u64; 1026];
+    let mut high = RoleSet::empty();
     let mut role = 0;
     while role < count {
         let more = t.plus[role];
         let less = t.minus[role];
-        put(&mut sheet.plus, role, more);
-        put(&mut sheet.minus, role, less);
-        note(&mut sheet.needed, more, role);
-        note(&mut sheet.opposed, less, role);
-        sheet.high = add_if(t.labels[role], RoleSet::single(role), sheet.high);
+        put(&mut sheet, Column::Plus, role, more);
+        put(&mut sheet, Column::Minus, role, less);
+        note(&mut sheet, Column::Needed, more, role);
+        note(&mut sheet, Column::Opposed, less, role);
+        high = add_if(t.labels[role], RoleSet::single(role), high);
         role += 1;
     }
+    sheet[0] = high.low;
+    sheet[1] = high.high;
     sheet
 }

@@ -5,8 +5,8 @@ use mathlib.Core.List.{List, [], _∷_, _++_, map}
 use mathlib.Core.Path.{_≡_, refl}
 use lib.Count.{ones}
 use Rattle.roles.specs.Sets.{bit, emptySet, hasRole, singleOf, unionOf, meetOf, withOf, lessOf, withoutOf, sameSet, sharesRole, includes, sizeOf}
-use Rattle.sheets.specs.Turned.{addIf, addOwn, rolesBelow, setsBelow, setsOf, turnedOf}
-use Rattle.closing.specs.Rounds.{linksOf, roundOf, samePair, roundsOf, closeOf}
+use Rattle.sheets.specs.Turned.{addIf, addOwn, rolesBelow, setsBelow, setsOf, ownBelow, namedBelow, turnedOf}
+use Rattle.closing.specs.Rounds.{roundOf, samePair, roundsOf, closeOf}
 use Rattle.rules.specs.Tests.{implies, inconsistentRole, personPasses, holdsHigh, unopposedTarget, unneededTarget, targetSuits, assignPasses, revokePasses, goalPasses}
 use Rattle.model.specs.Meaning.{meaning}
 use Rattle.bytes.specs.Bytes.{indexOf}
@@ -35,7 +35,7 @@ use Rattle.answering.specs.Answers as answer
 
 -- opens every definition of judging
 unfoldable judging : Unit {0}
-unfolding bit emptySet hasRole singleOf unionOf meetOf withOf lessOf withoutOf sameSet sharesRole includes sizeOf ones meaning addIf addOwn rolesBelow setsBelow setsOf turnedOf linksOf roundOf samePair roundsOf closeOf implies inconsistentRole personPasses holdsHigh unopposedTarget unneededTarget targetSuits assignPasses revokePasses goalPasses firstFailure firstFailing policyOf subjectOf firstHolding firstAssign firstRevoke firstGoal failingPart andThen rulesSaid allSaid judgedRules judgedTyping typingVerdict pinnedBelow pinnedNames
+unfolding bit emptySet hasRole singleOf unionOf meetOf withOf lessOf withoutOf sameSet sharesRole includes sizeOf ones meaning addIf addOwn rolesBelow setsBelow setsOf ownBelow namedBelow turnedOf roundOf samePair roundsOf closeOf implies inconsistentRole personPasses holdsHigh unopposedTarget unneededTarget targetSuits assignPasses revokePasses goalPasses firstFailure firstFailing policyOf subjectOf firstHolding firstAssign firstRevoke firstGoal failingPart andThen rulesSaid allSaid judgedRules judgedTyping typingVerdict pinnedBelow pinnedNames
 judging = tt
 
 -- What is asked: check of a policy text and a piece of evidence, or the merge of two policies with a typing each.

@@ -5,8 +5,10 @@ use borrow.Author.Needs.{needs}
 use mathlib.Core.Path.{_≡_, refl, sym, _∙_}
 use mathlib.Core.Bool.{true, false}
 use native.Mathlib.Omega.{arith}
+use Rattle.sheets.specs.Turned.{Turned}
+use Rattle.sheets.specs.Words.{saidIn}
 use Rattle.closing.specs.declared.Pair.{Pair}
-use Rattle.closing.specs.Rounds.{Links, linksIn, roundOf, samePair, roundsOf, closeOf}
+use Rattle.closing.specs.Rounds.{roundOf, samePair, roundsOf, closeOf}
 use Rattle.closing.specs.Steps.{rounds-stop, rounds-go-on}
 use Rattle.closing.specs.Fresh.{freshRound, nobody, Passed, passed-start, fresh-round, passed-round}
 use Rattle.closing.proofs.close.Statement.{statement}
@@ -17,31 +19,31 @@ left-over : (most : ℕ) → most < 256 → 256 - most ≡ suc (256 - (most + 1)
 left-over most below = omega arith
 
 -- After so many rounds.
-record Reached (links : Links) (pair before now : Pair) (changes : ℕ) : Type 0 where
+record Reached (said : Turned) (pair before now : Pair) (changes : ℕ) : Type 0 where
   most : changes ≤ 256
-  passed : Passed links before now
-  left : closeOf links pair ≡ roundsOf (256 - changes) links now
+  passed : Passed said before now
+  left : closeOf said pair ≡ roundsOf (256 - changes) said now
 
 -- what the present pair and its round say of the closure
-module _ (links : Links) {pair before now next : Pair} {changes : ℕ} (so-far : Reached links pair before now changes) (below : changes < 256) (round : next ≡ freshRound links before now) where
-  whole : next ≡ roundOf links now
-  whole = round ∙ fresh-round links before now (so-far .passed)
+module _ (said : Turned) {pair before now next : Pair} {changes : ℕ} (so-far : Reached said pair before now changes) (below : changes < 256) (round : next ≡ freshRound said before now) where
+  whole : next ≡ roundOf said now
+  whole = round ∙ fresh-round said before now (so-far .passed)
 
-  stops : samePair now next ≡ true → now ≡ closeOf links pair
-  stops e = sym (so-far .left ∙ rw (left-over changes below) (rounds-stop (256 - (changes + 1)) links now (rw whole at e)))
+  stops : samePair now next ≡ true → now ≡ closeOf said pair
+  stops e = sym (so-far .left ∙ rw (left-over changes below) (rounds-stop (256 - (changes + 1)) said now (rw whole at e)))
 
-  goes-on : samePair now next ≡ false → Reached links pair now next (changes + 1)
+  goes-on : samePair now next ≡ false → Reached said pair now next (changes + 1)
   goes-on e = record {
     most = omega arith;
-    passed = rw whole (passed-round links now);
-    left = so-far .left ∙ rw (left-over changes below, whole) (rounds-go-on (256 - (changes + 1)) links now (rw whole at e));
+    passed = rw whole (passed-round said now);
+    left = so-far .left ∙ rw (left-over changes below, whole) (rounds-go-on (256 - (changes + 1)) said now (rw whole at e));
   }
 
 abbrev Inv-loop : tie.InvT-loop
-Inv-loop plus minus needed before₀ now₀ changes₀ before now changes = Reached (linksIn plus minus needed) now₀ before now changes
+Inv-loop sheet before₀ now₀ changes₀ before now changes = Reached (saidIn sheet) now₀ before now changes
 
 abbrev μ-loop : tie.MeasureT-loop
-μ-loop plus minus needed before₀ now₀ changes₀ before now changes = 256 - changes
+μ-loop sheet before₀ now₀ changes₀ before now changes = 256 - changes
 
 empty-requires : tie.Need-empty-requires Inv-loop μ-loop
 empty-requires c κs = search needs

@@ -1,6 +1,6 @@
 -- `round` joins what the new roles bring, by what its callees promise.
 use borrow.Author.Needs.{needs}
-use Rattle.closing.specs.Rounds.{linksIn}
+use Rattle.sheets.specs.Words.{saidIn}
 use Rattle.closing.specs.Fresh.{freshRound}
 use Rattle.closing.proofs.round.Statement.{statement}
 use Rattle.closing.proofs.round.Tie as tie
@@ -30,7 +30,7 @@ union-requires-3 : tie.Need-union-requires-3
 union-requires-3 c κs = search needs
 
 returns : tie.Need-returns
-unfolding freshRound linksIn
+unfolding freshRound saidIn
 returns c = cc
 
 pub round-spec : {M : Type 1} → statement M

@@ -11,10 +11,10 @@ use Rattle.judging.proofs.first_assign.Statement.{statement}
 use Rattle.judging.proofs.first_assign.Tie as tie
 
 abbrev Inv-loop : tie.InvT-loop
-Inv-loop count plus minus needed opposed high assigns end number₀ number = Looked (assignPasses (saidIn plus minus needed opposed high)) assigns end (firstFailing (assignPasses (saidIn plus minus needed opposed high)) (take (min count 256) assigns)) number
+Inv-loop count sheet assigns end number₀ number = Looked (assignPasses (saidIn sheet)) assigns end (firstFailing (assignPasses (saidIn sheet)) (take (min count 256) assigns)) number
 
 abbrev μ-loop : tie.MeasureT-loop
-μ-loop count plus minus needed opposed high assigns end number₀ number = end - number
+μ-loop count sheet assigns end number₀ number = end - number
 
 smaller-requires : tie.Need-smaller-requires Inv-loop μ-loop
 smaller-requires c κs = search needs

@@ -1,7 +1,6 @@
 -- `first_goal` goes through the goals that are counted; the invariant: the answer is that of those still to come.
-use Prim.Native.Nat.{ℕ, _-_, min}
+use Prim.Native.Nat.{_-_, min}
 use borrow.Author.Needs.{needs}
-use mathlib.Core.List.{List}
 use lib.ListN.{take}
 use native.Mathlib.Omega.{arith}
 use Rattle.sheets.specs.Words.{saidIn}
@@ -12,16 +11,16 @@ use Rattle.judging.proofs.first_goal.Statement.{statement}
 use Rattle.judging.proofs.first_goal.Tie as tie
 
 abbrev Inv-loop : tie.InvT-loop
-Inv-loop count plus minus needed high goals end number₀ number = (opposed : List ℕ) → Looked (goalPasses (saidIn plus minus needed opposed high)) goals end (firstFailing (goalPasses (saidIn plus minus needed opposed high)) (take (min count 32) goals)) number
+Inv-loop count sheet goals end number₀ number = Looked (goalPasses (saidIn sheet)) goals end (firstFailing (goalPasses (saidIn sheet)) (take (min count 32) goals)) number
 
 abbrev μ-loop : tie.MeasureT-loop
-μ-loop count plus minus needed high goals end number₀ number = end - number
+μ-loop count sheet goals end number₀ number = end - number
 
 smaller-requires : tie.Need-smaller-requires Inv-loop μ-loop
 smaller-requires c κs = search needs
 
 loop-holds : tie.Need-loop-holds Inv-loop μ-loop
-loop-holds c opposed = looked-start (c .smaller .ensures) (omega (arith, c .before .good .0 .1 .0 .1, c .smaller .ensures))
+loop-holds c = looked-start (c .smaller .ensures) (omega (arith, c .before .good .0 .1 .0 .1, c .smaller .ensures))
 
 mul-next : tie.Need-mul-next Inv-loop μ-loop
 mul-next c = omega arith
@@ -36,20 +35,20 @@ goal-passes-requires : tie.Need-goal-passes-requires Inv-loop μ-loop
 goal-passes-requires c κs = search needs
 
 returns : tie.Need-returns Inv-loop μ-loop
-returns c opposed =
+returns c =
     let head = c .before .before .before .before in
-    looked-fails (head .loop .inv opposed) (c .before .before .before .loop-test .taken) _ (c .before .goal-passes .ensures opposed) (c .if1 .taken)
+    looked-fails (head .loop .inv) (c .before .before .before .loop-test .taken) _ (c .before .goal-passes .ensures) (c .if1 .taken)
 
 loop-less : tie.Need-loop-less Inv-loop μ-loop
 loop-less c = omega arith
 
 loop-again : tie.Need-loop-again Inv-loop μ-loop
-loop-again c opposed =
+loop-again c =
     let head = c .before .before .before .before in
-    looked-passes (head .loop .inv opposed) (c .before .before .before .loop-test .taken) _ (c .before .goal-passes .ensures opposed) (c .if1 .left)
+    looked-passes (head .loop .inv) (c .before .before .before .loop-test .taken) _ (c .before .goal-passes .ensures) (c .if1 .left)
 
 returns-2 : tie.Need-returns-2 Inv-loop μ-loop
-returns-2 c opposed = looked-end (c .before .loop .inv opposed) (c .loop-test .left)
+returns-2 c = looked-end (c .before .loop .inv) (c .loop-test .left)
 
 pub first-goal-spec : {M : Type 1} → statement M
 first-goal-spec =

@@ -1,10 +1,8 @@
 -- `first_revoke` goes through the revoke rules that are counted; the invariant: the answer is that of those still to come.
-use Prim.Native.Nat.{ℕ, _-_, min}
+use Prim.Native.Nat.{_-_, min}
 use borrow.Author.Needs.{needs}
-use mathlib.Core.List.{List}
 use lib.ListN.{take}
 use native.Mathlib.Omega.{arith}
-use Rattle.roles.specs.declared.RoleSet.{RoleSet}
 use Rattle.sheets.specs.Words.{saidIn}
 use Rattle.rules.specs.Tests.{revokePasses}
 use Rattle.judging.specs.Verdict.{firstFailing}
@@ -13,16 +11,16 @@ use Rattle.judging.proofs.first_revoke.Statement.{statement}
 use Rattle.judging.proofs.first_revoke.Tie as tie
 
 abbrev Inv-loop : tie.InvT-loop
-Inv-loop count plus minus needed revokes end number₀ number = (opposed : List ℕ) (high : RoleSet) → Looked (revokePasses (saidIn plus minus needed opposed high)) revokes end (firstFailing (revokePasses (saidIn plus minus needed opposed high)) (take (min count 256) revokes)) number
+Inv-loop count sheet revokes end number₀ number = Looked (revokePasses (saidIn sheet)) revokes end (firstFailing (revokePasses (saidIn sheet)) (take (min count 256) revokes)) number
 
 abbrev μ-loop : tie.MeasureT-loop
-μ-loop count plus minus needed revokes end number₀ number = end - number
+μ-loop count sheet revokes end number₀ number = end - number
 
 smaller-requires : tie.Need-smaller-requires Inv-loop μ-loop
 smaller-requires c κs = search needs
 
 loop-holds : tie.Need-loop-holds Inv-loop μ-loop
-loop-holds c opposed high = looked-start (c .smaller .ensures) (omega (arith, c .before .good .0 .1 .0 .1, c .smaller .ensures))
+loop-holds c = looked-start (c .smaller .ensures) (omega (arith, c .before .good .0 .1 .0 .1, c .smaller .ensures))
 
 mul-next : tie.Need-mul-next Inv-loop μ-loop
 mul-next c = omega arith
@@ -37,20 +35,20 @@ revoke-passes-requires : tie.Need-revoke-passes-requires Inv-loop μ-loop
 revoke-passes-requires c κs = search needs
 
 returns : tie.Need-returns Inv-loop μ-loop
-returns c opposed high =
+returns c =
     let head = c .before .before .before .before in
-    looked-fails (head .loop .inv opposed high) (c .before .before .before .loop-test .taken) _ (c .before .revoke-passes .ensures opposed high) (c .if1 .taken)
+    looked-fails (head .loop .inv) (c .before .before .before .loop-test .taken) _ (c .before .revoke-passes .ensures) (c .if1 .taken)
 
 loop-less : tie.Need-loop-less Inv-loop μ-loop
 loop-less c = omega arith
 
 loop-again : tie.Need-loop-again Inv-loop μ-loop
-loop-again c opposed high =
+loop-again c =
     let head = c .before .before .before .before in
-    looked-passes (head .loop .inv opposed high) (c .before .before .before .loop-test .taken) _ (c .before .revoke-passes .ensures opposed high) (c .if1 .left)
+    looked-passes (head .loop .inv) (c .before .before .before .loop-test .taken) _ (c .before .revoke-passes .ensures) (c .if1 .left)
 
 returns-2 : tie.Need-returns-2 Inv-loop μ-loop
-returns-2 c opposed high = looked-end (c .before .loop .inv opposed high) (c .loop-test .left)
+returns-2 c = looked-end (c .before .loop .inv) (c .loop-test .left)
 
 pub first-revoke-spec : {M : Type 1} → statement M
 first-revoke-spec =

@@ -1,6 +1,5 @@
 -- `rules_verdict` takes the verdict on the assign rules, and where it is accepted that on the revoke rules.
 use borrow.Author.Needs.{needs}
-use denote.Ref.{now}
 use mathlib.Core.Path.{ap, _∙_}
 use Rattle.judging.specs.declared.Part.{Part}
 use Rattle.judging.specs.Verdict.{policyIn, firstAssign, firstRevoke, failingPart, rulesSaid}
@@ -37,9 +36,8 @@ unfolding rulesSaid firstAssign firstRevoke policyIn
 returns-2 c =
     let told = c .before .before in
     let judged = told .before .before in
-    let args = judged .before .before .before .before .args in
     then-goes (told .enum-told .given .1) (judged .failing .ensures ∙ ap (failingPart Part.Assign) (judged .before .first-assign .ensures))
-    (c .failing2 .ensures ∙ ap (failingPart Part.Revoke) (c .before .first-revoke .ensures (now (args .opposed)) (args .high)))
+    (c .failing2 .ensures ∙ ap (failingPart Part.Revoke) (c .before .first-revoke .ensures))
 
 pub rules-verdict-spec : {M : Type 1} → statement M
 rules-verdict-spec =

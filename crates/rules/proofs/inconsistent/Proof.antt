@@ -16,7 +16,7 @@ shares-requires c κs = search needs
 
 returns : tie.Need-returns
 unfolding inconsistentRole saidIn
-returns c needed opposed high = cc
+returns c = cc
 
 pub inconsistent-spec : {M : Type 1} → statement M
 inconsistent-spec = tie.close (tie.spec set-of-requires set-of-requires-2 shares-requires returns)

@@ -5,6 +5,9 @@ use Rattle.rules.specs.Tests.{implies, holdsHigh, personPasses}
 use Rattle.rules.proofs.person_passes.Statement.{statement}
 use Rattle.rules.proofs.person_passes.Tie as tie
 
+high-of-requires : tie.Need-high-of-requires
+high-of-requires c κs = search needs
+
 shares-requires : tie.Need-shares-requires
 shares-requires c κs = search needs
 
@@ -22,12 +25,13 @@ within-requires c κs = search needs
 
 returns : tie.Need-returns
 unfolding personPasses holdsHigh implies saidIn
-returns c needed opposed = cc
+returns c = cc
 
 pub person-passes-spec : {M : Type 1} → statement M
 person-passes-spec =
     tie.close
     (tie.spec
+    high-of-requires
     shares-requires
     sets-of-requires
     shares-requires-2

@@ -1,7 +1,7 @@
 -- `revoke_passes` joins the two reasons to pass, by what its callees promise.
 use borrow.Author.Needs.{needs}
 use Rattle.sheets.specs.Words.{saidIn}
-use Rattle.rules.specs.Tests.{inconsistentRole, unneededTarget, revokePasses}
+use Rattle.rules.specs.Tests.{unneededTarget, revokePasses}
 use Rattle.rules.proofs.revoke_passes.Statement.{statement}
 use Rattle.rules.proofs.revoke_passes.Tie as tie
 
@@ -18,10 +18,10 @@ within-requires : tie.Need-within-requires
 within-requires c κs = search needs
 
 returns : tie.Need-returns
-unfolding revokePasses inconsistentRole unneededTarget saidIn
-returns c opposed high =
+unfolding revokePasses unneededTarget saidIn
+returns c =
     let named = c .before .before in
-    rw (named .before .inconsistent .ensures opposed opposed high, c .within .ensures, c .before .single .ensures, named .set-of .ensures)
+    rw (named .before .inconsistent .ensures, c .within .ensures, c .before .single .ensures, named .set-of .ensures)
 
 pub revoke-passes-spec : {M : Type 1} → statement M
 revoke-passes-spec =

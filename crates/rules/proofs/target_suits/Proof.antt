@@ -5,6 +5,9 @@ use Rattle.rules.specs.Tests.{implies, holdsHigh, unopposedTarget, targe
 use Rattle.rules.proofs.target_suits.Statement.{statement}
 use Rattle.rules.proofs.target_suits.Tie as tie
 
+high-of-requires : tie.Need-high-of-requires
+high-of-requires c κs = search needs
+
 has-requires : tie.Need-has-requires
 has-requires c κs = search needs
 
@@ -37,12 +40,13 @@ within-requires-3 c κs = search needs
 
 returns : tie.Need-returns
 unfolding targetSuits holdsHigh unopposedTarget implies saidIn
-returns c needed = cc
+returns c = cc
 
 pub target-suits-spec : {M : Type 1} → statement M
 target-suits-spec =
     tie.close
     (tie.spec
+    high-of-requires
     has-requires
     shares-requires
     set-of-requires

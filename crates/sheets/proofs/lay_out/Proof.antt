@@ -1,33 +1,30 @@
--- `lay_out` goes through the roles below the limit; the invariant: the sheet is what the typing says of the roles passed, in tables of 256 words.
+-- `lay_out` goes through the roles below the limit; the invariant: the sheet and the roles labelled H are what the typing says of the roles passed.
 use Prim.Native.Nat.{_≤_, _-_}
 use borrow.Author.Needs.{needs}
-use mathlib.Core.Path.{_≡_, refl, ap, _∙_}
+use mathlib.Core.Path.{ap, _∙_}
 use native.Mathlib.Omega.{arith}
 use Rattle.roles.specs.declared.RoleSet.{RoleSet}
 use Rattle.roles.specs.Sets.{emptySet}
 use Rattle.model.specs.Meaning.{meaning}
-use Rattle.sheets.specs.declared.Sheet.{Sheet}
-use Rattle.sheets.specs.Turned.{addIf, turnedOf}
-use Rattle.sheets.specs.Words.{turnedIn}
-use Rattle.sheets.specs.Laying.{laid-start, laid-step, laid-end}
-use Rattle.sheets.specs.Whole.{Roomy, sheet-whole}
+use Rattle.sheets.specs.Turned.{addIf}
+use Rattle.sheets.specs.Laying.{LaidBelow, laid-start, laid-step, laid-end}
 use Rattle.sheets.proofs.lay_out.Statement.{statement}
 use Rattle.sheets.proofs.lay_out.Tie as tie
 
 abbrev Inv-loop : tie.InvT-loop
-Inv-loop roles t count sheet₀ role₀ sheet role = (role ≤ count) × ((turnedIn sheet ≡ turnedOf t role) × Roomy sheet)
+Inv-loop roles t count sheet₀ high₀ role₀ sheet high role = (role ≤ count) × LaidBelow t role sheet high
 
 abbrev μ-loop : tie.MeasureT-loop
-μ-loop roles t count sheet₀ role₀ sheet role = count - role
+μ-loop roles t count sheet₀ high₀ role₀ sheet high role = count - role
 
-limited-requires : tie.Need-limited-requires Inv-loop μ-loop
-limited-requires c κs = search needs
+smaller-requires : tie.Need-smaller-requires Inv-loop μ-loop
+smaller-requires c κs = search needs
 
 empty-requires : tie.Need-empty-requires Inv-loop μ-loop
 empty-requires c κs = search needs
 
 loop-holds : tie.Need-loop-holds Inv-loop μ-loop
-loop-holds c = (omega arith, (laid-start (c .before .before .args .t1) (c .empty .ensures), record { plus = refl; minus = refl; needed = refl; opposed = refl }))
+loop-holds c = (omega arith, laid-start (c .before .before .args .t1) (c .empty .ensures))
 
 mul-more : tie.Need-mul-more Inv-loop μ-loop
 mul-more c = omega arith
@@ -71,34 +68,29 @@ loop-less c = omega arith
 loop-again : tie.Need-loop-again Inv-loop μ-loop
 unfolding meaning emptySet
 loop-again c =
-    let noted2 = c .before .before .before .before in
+    let noted2 = c .before .before .before in
     let noted = noted2 .before .before in
     let written2 = noted .before .before in
     let written = written2 .before .before in
     let inside = written .before .before .before .before in
     let head = inside .before in
-    let t = head .before .before .before .args .t1 in
-    let next : Sheet = record { plus = written .put .last .0; minus = written2 .put2 .last .0; needed = noted .note .last .0; opposed = noted2 .note2 .last .0; high = c .add-if .result } in (
+    let t = head .before .before .before .args .t1 in (
       omega (arith, inside .loop-test .taken),
-      (
-        laid-step t (head .loop .role) (head .loop .sheet) (head .loop .inv .1 .0) next (omega (arith, inside .loop-test .taken, head .before .before .limited .ensures))
-            (written .put .ensures .1) (written2 .put2 .ensures .1) (noted .note .ensures .1) (noted2 .note2 .ensures .1)
-            (c .add-if .ensures ∙ ap (λ (s : RoleSet). addIf (meaning t .label (head .loop .role)) s (head .loop .sheet .high)) (c .before .before .single .ensures)),
-        record {
-          plus = written .put .ensures .0 ∙ head .loop .inv .1 .1 .plus;
-          minus = written2 .put2 .ensures .0 ∙ head .loop .inv .1 .1 .minus;
-          needed = noted .note .ensures .0 ∙ head .loop .inv .1 .1 .needed;
-          opposed = noted2 .note2 .ensures .0 ∙ head .loop .inv .1 .1 .opposed;
-        },
-      ),
+      laid-step (head .loop .inv .1) (written .put .ensures) (written2 .put2 .ensures) (noted .note .ensures) (noted2 .note2 .ensures)
+          (c .add-if .ensures ∙ ap (λ (s : RoleSet). addIf (meaning t .label (head .loop .role)) s (head .loop .high)) (c .before .single .ensures)),
     )
+
+array-write-sheet : tie.Need-array-write-sheet Inv-loop μ-loop
+array-write-sheet c = search needs
+
+array-write-sheet-2 : tie.Need-array-write-sheet-2 Inv-loop μ-loop
+array-write-sheet-2 c = search needs
 
 returns : tie.Need-returns Inv-loop μ-loop
 returns c =
     let head = c .before in
     let start = head .before .before .before in
-    sheet-whole (start .args .t1) (start .args .roles) (head .loop .sheet) (head .loop .inv .1 .1)
-    (laid-end (start .args .t1) (head .loop .role) (head .loop .sheet) (head .loop .inv .1 .0) (start .args .roles) (omega (arith, head .before .before .limited .ensures)))
+    laid-end (head .loop .inv .1) (start .args .roles) (omega (arith, head .before .before .smaller .ensures))
 
 pub lay-out-spec : {M : Type 1} → statement M
 lay-out-spec =
@@ -106,7 +98,7 @@ lay-out-spec =
     (tie.spec
     Inv-loop
     μ-loop
-    limited-requires
+    smaller-requires
     empty-requires
     loop-holds
     mul-more
@@ -123,4 +115,6 @@ lay-out-spec =
     add-role
     loop-less
     loop-again
+    array-write-sheet
+    array-write-sheet-2
     returns)

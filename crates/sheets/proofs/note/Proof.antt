@@ -10,13 +10,13 @@ use Rattle.sheets.proofs.note.Statement.{statement}
 use Rattle.sheets.proofs.note.Tie as tie
 
 abbrev Inv-loop : tie.InvT-loop
-Inv-loop table₀ role left₀ table left = Noted role left₀ left table₀ table
+Inv-loop sheet₀ column role left₀ sheet left = Noted column role left₀ left sheet₀ sheet
 
 abbrev μ-loop : tie.MeasureT-loop
-μ-loop table₀ role left₀ table left = many left
+μ-loop sheet₀ column role left₀ sheet left = many left
 
 loop-holds : tie.Need-loop-holds Inv-loop μ-loop
-loop-holds c = noted-start (c .args .role) (c .args .members) (c .args .table .now)
+loop-holds c = noted-start (c .args .column) (c .args .role) (c .args .members) (c .args .sheet .now)
 
 lowest-requires : tie.Need-lowest-requires Inv-loop μ-loop
 lowest-requires c κs = search needs

@@ -11,16 +11,16 @@ use Rattle.sheets.proofs.sets_of.Statement.{statement}
 use Rattle.sheets.proofs.sets_of.Tie as tie
 
 abbrev Inv-loop : tie.InvT-loop
-Inv-loop table all₀ left₀ all left = setsOf (setIn table) left₀ ≡ unionOf all (setsOf (setIn table) left)
+Inv-loop sheet column all₀ left₀ all left = setsOf (setIn sheet column) left₀ ≡ unionOf all (setsOf (setIn sheet column) left)
 
 abbrev μ-loop : tie.MeasureT-loop
-μ-loop table all₀ left₀ all left = many left
+μ-loop sheet column all₀ left₀ all left = many left
 
 empty-requires : tie.Need-empty-requires Inv-loop μ-loop
 empty-requires c κs = search needs
 
 loop-holds : tie.Need-loop-holds Inv-loop μ-loop
-loop-holds c = joined-start (setIn (c .before .args .table .now)) (c .before .args .members) (c .empty .ensures)
+loop-holds c = joined-start (setIn (c .before .args .sheet .now) (c .before .args .column)) (c .before .args .members) (c .empty .ensures)
 
 lowest-requires : tie.Need-lowest-requires Inv-loop μ-loop
 lowest-requires c κs = search needs
@@ -28,7 +28,7 @@ lowest-requires c κs = search needs
 returns : tie.Need-returns Inv-loop μ-loop
 returns c =
     let head = c .before .before in
-    joined-end (setIn (head .before .before .args .table .now)) (head .loop .all) (head .loop .left) (head .loop .inv) (c .before .lowest .ensures) (c .if1 .taken)
+    joined-end (setIn (head .before .before .args .sheet .now) (head .before .before .args .column)) (head .loop .all) (head .loop .left) (head .loop .inv) (c .before .lowest .ensures) (c .if1 .taken)
 
 set-of-requires : tie.Need-set-of-requires Inv-loop μ-loop
 set-of-requires c κs = search needs
@@ -48,7 +48,7 @@ loop-again : tie.Need-loop-again Inv-loop μ-loop
 loop-again c =
     let inside = c .before .before .before in
     let head = inside .before .before in
-    joined-step (setIn (head .before .before .args .table .now)) (head .loop .all) (head .loop .left) (head .loop .inv) (inside .before .lowest .ensures) (inside .if1 .left)
+    joined-step (setIn (head .before .before .args .sheet .now) (head .before .before .args .column)) (head .loop .all) (head .loop .left) (head .loop .inv) (inside .before .lowest .ensures) (inside .if1 .left)
     (c .before .before .set-of .ensures) (c .before .union .ensures) (c .without .ensures)
 
 pub sets-of-spec : {M : Type 1} → statement M
