@@ -1,7 +1,7 @@
 -- The verdict on a typing, part by part in document 01's order, with the number of the first that fails; and pinned.
 use Prim.Native.Nat.{ℕ, zero, suc, _+_, min}
-use mathlib.Core.Bool.{Bool, cond}
-use mathlib.Core.List.{List, [], _∷_}
+use mathlib.Core.Bool.{Bool, not}
+use mathlib.Core.List.{List}
 use lib.ListN.{length, take}
 use Rattle.roles.specs.Sets.{sizeOf}
 use Rattle.model.specs.declared.Person.{Person}
@@ -13,19 +13,15 @@ use Rattle.sheets.specs.Turned.{Turned, turnedOf}
 use Rattle.rules.specs.Tests.{personPasses, assignPasses, revokePasses, goalPasses}
 use Rattle.reading.specs.declared.policy.Rules.{Rules}
 use Rattle.reading.specs.Policy.{Said, policyOf}
+use Rattle.steps.specs.First.{first}
 use Rattle.judging.specs.declared.Part.{Part}
 use Rattle.judging.specs.declared.TypingVerdict.{TypingVerdict}
 
 -- ---- the first that fails
 
--- The number of the first element that fails the test, where the list's own first element has the given number; 0 where all pass.
-unfoldable pub firstFrom {ℓ} : {A : Type ℓ} → ℕ → (A → Bool) → List A → ℕ
-firstFrom number test [] = 0
-firstFrom number test (x ∷ xs) = cond (test x) (firstFrom (suc number) test xs) number
-
 -- The number, from 1, of the first element that fails the test; 0 where all pass.
-unfoldable pub firstFailing {ℓ} : {A : Type ℓ} → (A → Bool) → List A → ℕ
-firstFailing test xs = firstFrom 1 test xs
+unfoldable pub firstFailing : {A : Type 0} → (A → Bool) → List A → ℕ
+firstFailing test xs = first (λ x. not (test x)) xs
 
 -- ---- what a typing is judged on
 

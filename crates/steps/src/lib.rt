@@ -1,12 +1,12 @@
 // One step of a run, and whether a state is bad: tests over the records.
 ghost use mathlib.Core.Path.{_≡_};
-ghost use Prim.Native.Nat.{min};
 ghost use lib.ListN.{take};
 ghost use Rattle.steps.specs.Tests.{mayAssign, mayRevoke, lowestGoal, ownGoal, firstBad};
 use model::Assign;
 use model::Person;
 use model::Revoke;
 use roles::RoleSet;
+use roles::smaller;
 
 // A step of a trace: an assign step or a revoke step, with its actor, rule number and user, all places from 0.
 pub enum Step {
@@ -45,21 +45,11 @@ pub fn may_revoke(rule: Revoke, actor: Person, user: Person) -> bool
     actor.roles.has(rule.admin) & user.roles.has(rule.target)
 }
 
-// The lesser of a count and its limit.
-fn limited(count: usize, limit: usize) -> usize
-    ensures { λ r. ⌜ r ≡ min count limit ⌝ }
-{
-    if count < limit {
-        return count;
-    }
-    limit
-}
-
 // The lowest number, from 1, of a goal that the roles hold whole, among the first `count` goals; 0 where there is none.
 pub fn lowest_goal(goals: [RoleSet; 32], count: usize, roles: RoleSet) -> usize
     ensures { λ r. ⌜ r ≡ lowestGoal (take count goals) roles ⌝ }
 {
-    let last = limited(count, 32);
+    let last = smaller(count, 32);
     let mut place = 0;
     while place < last {
         let goal = goals[place];
@@ -88,7 +78,7 @@ fn own_goal(goals: [RoleSet; 32], count: usize, person: Person) -> usize
 pub fn first_bad(persons: [Person; 64], users: usize, goals: [RoleSet; 32], count: usize) -> Found
     ensures { λ r. ⌜ r ≡ firstBad (take users persons) (take count goals) ⌝ }
 {
-    let last = limited(users, 64);
+    let last = smaller(users, 64);
     let mut place = 0;
     while place < last {
         let person = persons[place];

@@ -25,7 +25,7 @@ use Rattle.typings.specs.Kind.{isTyping}
 use Rattle.steps.specs.First.{first, firstFrom}
 use Rattle.steps.specs.Tests.{mayAssign, mayRevoke, lowestGoal, ownGoal, badPerson, goalOf, firstBad}
 use Rattle.steps.specs.Traces.{assignAt, revokeAt, possible, after, later, runOf}
-use Rattle.judging.specs.Verdict.{firstFrom as firstFailure, firstFailing, subjectOf, firstHolding, firstAssign, firstRevoke, firstGoal, failingPart, andThen, rulesSaid, allSaid, judgedRules, judgedTyping, typingVerdict, rulesVerdict, pinnedBelow, pinnedNames}
+use Rattle.judging.specs.Verdict.{firstFailing, subjectOf, firstHolding, firstAssign, firstRevoke, firstGoal, failingPart, andThen, rulesSaid, allSaid, judgedRules, judgedTyping, typingVerdict, rulesVerdict, pinnedBelow, pinnedNames}
 use Rattle.running.specs.Verdict.{lastVerdict, ranVerdict, readVerdict, traceVerdict}
 use Rattle.summing.specs.Outcome.{answerIn, whenRead}
 use Rattle.merging.specs.Directory.{sameLists, sameLabel, samePerson, sameDirectory}
@@ -36,7 +36,7 @@ use Rattle.answering.specs.Answers as answer
 
 -- opens every definition of judging
 unfoldable judging : Unit {0}
-unfolding bit emptySet hasRole singleOf unionOf meetOf withOf lessOf withoutOf sameSet sharesRole includes sizeOf ones meaning addIf addOwn rolesBelow setsBelow setsOf ownBelow namedBelow turnedOf roundOf samePair roundsOf closeOf implies inconsistentRole personPasses holdsHigh unopposedTarget unneededTarget targetSuits assignPasses revokePasses goalPasses firstFailure firstFailing policyOf subjectOf firstHolding firstAssign firstRevoke firstGoal failingPart andThen rulesSaid allSaid judgedRules judgedTyping typingVerdict pinnedBelow pinnedNames
+unfolding bit emptySet hasRole singleOf unionOf meetOf withOf lessOf withoutOf sameSet sharesRole includes sizeOf ones meaning addIf addOwn rolesBelow setsBelow setsOf ownBelow namedBelow turnedOf roundOf samePair roundsOf closeOf implies inconsistentRole personPasses holdsHigh unopposedTarget unneededTarget targetSuits assignPasses revokePasses goalPasses first firstFrom firstFailing policyOf subjectOf firstHolding firstAssign firstRevoke firstGoal failingPart andThen rulesSaid allSaid judgedRules judgedTyping typingVerdict pinnedBelow pinnedNames
 judging = tt
 
 -- What is asked: check of a policy text and a piece of evidence, or the merge of two policies with a typing each.
@@ -120,5 +120,5 @@ rows =
 
 -- Each row is answered so. P11 is a law by itself (`own-target-passes`).
 pub worked-cases : map (λ (r : Row). told (r .asked)) rows ≡ map (λ (r : Row). r .answer) rows
-unfolding reading judging padded indexOf withoutRole revoked isNumber decimal first firstFrom numberOf inTurn typing.oneField typing.twoFields typing.lineOf typing.wellFormed typing.named typing.entry typing.judged typing.typingLine typings.untyped typings.added typings.answered typings.judgeLine typings.readTyping typings.tableOf trace.fourFields trace.lineOf trace.isStep trace.stepNamed trace.stepFormed trace.stepKnown trace.stepSaid trace.judged trace.traceLine traces.untraced traces.headerLine traces.laterLine traces.answered traces.judgeLine traces.readTrace isTyping mayAssign mayRevoke lowestGoal ownGoal badPerson goalOf firstBad assignAt revokeAt possible after later runOf lastVerdict ranVerdict readVerdict traceVerdict judgedAnswer typingAnswer traceAnswer evidenceAnswer answerAfter answerOf rulesVerdict sameName sameLists sameLabel samePerson sameDirectory whenRead answerIn whenSame whenAccepted mergeJudged mergeOutcome told
+unfolding reading judging padded indexOf revoked isNumber decimal numberOf turnOf typing.oneField typing.twoFields typing.lineOf typing.wellFormed typing.named typing.entry typing.answerTo typing.judged typing.typingLine typings.untyped typings.added typings.answered typings.judgeLine typings.readTyping typings.tableOf trace.fourFields trace.lineOf trace.isStep trace.stepNamed trace.answerTo trace.judged trace.traceLine traces.untraced traces.headerLine traces.laterLine traces.answered traces.judgeLine traces.readTrace isTyping mayAssign mayRevoke withTarget withoutTarget lowestGoal ownGoal badPerson goalOf firstBad assignAt revokeAt possible after later runOf lastVerdict ranVerdict readVerdict traceVerdict judgedAnswer typingAnswer traceAnswer evidenceAnswer answerAfter answerOf rulesVerdict sameName sameLists sameLabel samePerson sameDirectory whenRead answerIn whenSame whenAccepted mergeJudged mergeOutcome told
 worked-cases = refl

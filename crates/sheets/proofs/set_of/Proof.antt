@@ -1,6 +1,6 @@
 -- `set_of` reads the two words of the role's set; past role 127 the sheet has none.
 use borrow.Author.Needs.{needs}
-use mathlib.Core.Path.{refl, sym, _∙_}
+use mathlib.Core.Path.{sym, _∙_}
 use native.Mathlib.Omega.{arith}
 use Rattle.sheets.specs.Words.{placeOf, setAt, setIn}
 use Rattle.sheets.specs.Places.{column-range, past-sheet}

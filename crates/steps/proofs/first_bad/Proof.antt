@@ -45,8 +45,8 @@ Inv-loop users goals count persons last place₀ place =
 abbrev μ-loop : tie.MeasureT-loop
 μ-loop users goals count persons last place₀ place = last - place
 
-limited-requires : tie.Need-limited-requires Inv-loop μ-loop
-limited-requires c κs = search needs
+smaller-requires : tie.Need-smaller-requires Inv-loop μ-loop
+smaller-requires c κs = search needs
 
 loop-holds : tie.Need-loop-holds Inv-loop μ-loop
 unfolding first
@@ -72,7 +72,7 @@ returns c =
     let persons = start .args .t1 in
     let place = head .loop .place in
     let goals = take (start .args .count) (start .args .goals) in
-    let inside : place < min (start .args .users) (length persons) = omega (arith, start .good .0 .1 .0 .1, head .before .limited .ensures) in
+    let inside : place < min (start .args .users) (length persons) = omega (arith, start .good .0 .1 .0 .1, head .before .smaller .ensures) in
     let below : place < start .args .users = omega arith in
     let own = c .before .own-goal .ensures in
     answer-here (take (start .args .users) persons) goals place
@@ -90,7 +90,7 @@ loop-again c =
     let persons = start .args .t1 in
     let place = head .loop .place in
     let goals = take (start .args .count) (start .args .goals) in
-    let inside : place < min (start .args .users) (length persons) = omega (arith, start .good .0 .1 .0 .1, head .before .limited .ensures) in (
+    let inside : place < min (start .args .users) (length persons) = omega (arith, start .good .0 .1 .0 .1, head .before .smaller .ensures) in (
       omega arith,
       head .loop .inv .1 ∙ from-next (badPerson goals) persons (start .args .users) place nobody inside (not-bad goals (getD persons place nobody) (c .before .own-goal .ensures) (c .if1 .left)),
     )
@@ -99,7 +99,7 @@ returns-2 : tie.Need-returns-2 Inv-loop μ-loop
 returns-2 c =
     let head = c .before in
     let start = head .before .before in
-    let past : min (start .args .users) (length (start .args .t1)) ≤ head .loop .place = omega (arith, start .good .0 .1 .0 .1, head .before .limited .ensures) in
+    let past : min (start .args .users) (length (start .args .t1)) ≤ head .loop .place = omega (arith, start .good .0 .1 .0 .1, head .before .smaller .ensures) in
     answer-none (take (start .args .users) (start .args .t1)) (take (start .args .count) (start .args .goals))
     (head .loop .inv .1 ∙ from-end (badPerson (take (start .args .count) (start .args .goals))) (start .args .t1) (start .args .users) (head .loop .place) past)
 
@@ -109,7 +109,7 @@ first-bad-spec =
     (tie.spec
     Inv-loop
     μ-loop
-    limited-requires
+    smaller-requires
     loop-holds
     mul-person
     array-copy-out-person

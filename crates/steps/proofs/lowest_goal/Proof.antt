@@ -16,8 +16,8 @@ Inv-loop count roles goals last place₀ place = (place ≤ last) × (lowestGoal
 abbrev μ-loop : tie.MeasureT-loop
 μ-loop count roles goals last place₀ place = last - place
 
-limited-requires : tie.Need-limited-requires Inv-loop μ-loop
-limited-requires c κs = search needs
+smaller-requires : tie.Need-smaller-requires Inv-loop μ-loop
+smaller-requires c κs = search needs
 
 loop-holds : tie.Need-loop-holds Inv-loop μ-loop
 unfolding lowestGoal first
@@ -40,7 +40,7 @@ unfolding emptySet
 returns c =
     let head = c .before .before .before .before in
     let start = head .before .before in
-    let inside : head .loop .place < min (start .args .count) (length (start .args .t1)) = omega (arith, start .good .0 .1 .0 .1, head .before .limited .ensures) in
+    let inside : head .loop .place < min (start .args .count) (length (start .args .t1)) = omega (arith, start .good .0 .1 .0 .1, head .before .smaller .ensures) in
     sym (head .loop .inv .1 ∙ from-here (includes (start .args .roles)) (start .args .t1) (start .args .count) (head .loop .place) emptySet inside (sym (c .before .within .ensures) ∙ c .if1 .taken))
 
 loop-less : tie.Need-loop-less Inv-loop μ-loop
@@ -51,14 +51,14 @@ unfolding emptySet
 loop-again c =
     let head = c .before .before .before .before in
     let start = head .before .before in
-    let inside : head .loop .place < min (start .args .count) (length (start .args .t1)) = omega (arith, start .good .0 .1 .0 .1, head .before .limited .ensures) in
+    let inside : head .loop .place < min (start .args .count) (length (start .args .t1)) = omega (arith, start .good .0 .1 .0 .1, head .before .smaller .ensures) in
     (omega arith, head .loop .inv .1 ∙ from-next (includes (start .args .roles)) (start .args .t1) (start .args .count) (head .loop .place) emptySet inside (sym (c .before .within .ensures) ∙ c .if1 .left))
 
 returns-2 : tie.Need-returns-2 Inv-loop μ-loop
 returns-2 c =
     let head = c .before in
     let start = head .before .before in
-    let past : min (start .args .count) (length (start .args .t1)) ≤ head .loop .place = omega (arith, start .good .0 .1 .0 .1, head .before .limited .ensures) in
+    let past : min (start .args .count) (length (start .args .t1)) ≤ head .loop .place = omega (arith, start .good .0 .1 .0 .1, head .before .smaller .ensures) in
     sym (head .loop .inv .1 ∙ from-end (includes (start .args .roles)) (start .args .t1) (start .args .count) (head .loop .place) past)
 
 pub lowest-goal-spec : {M : Type 1} → statement M
@@ -67,7 +67,7 @@ lowest-goal-spec =
     (tie.spec
     Inv-loop
     μ-loop
-    limited-requires
+    smaller-requires
     loop-holds
     mul-goal
     array-copy-out-goal
