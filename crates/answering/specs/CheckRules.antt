@@ -8,10 +8,10 @@ use Rattle.model.specs.Typing.{Accepted}
 use Rattle.model.specs.Meaning.{meaning}
 use Rattle.walking.specs.Texts.{read}
 use Rattle.reading.specs.Policy.{Said, policyOf, readPolicy}
-use Rattle.reading.specs.PolicyExact.{PolicyRefusal}
+use Rattle.reading.specs.PolicyRefusals.{PolicyRefusal}
 use Rattle.typings.specs.TypingText.{Typed, readTyping, tableOf}
-use Rattle.typings.specs.Exact.{TypingRefusal}
-use Rattle.traces.specs.Exact.{TraceRefusal}
+use Rattle.typings.specs.TypingRefusals.{TypingRefusal}
+use Rattle.traces.specs.TraceRefusals.{TraceRefusal}
 use Rattle.typings.specs.Kind.{isTyping}
 use Rattle.judging.specs.Verdict.{pinnedNames}
 

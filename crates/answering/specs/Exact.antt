@@ -21,8 +21,9 @@ use Rattle.judging.specs.Verdict.{typingVerdict, pinnedNames}
 use Rattle.judging.specs.Exact as judging
 use Rattle.running.specs.declared.TraceVerdict.{TraceVerdict}
 use Rattle.running.specs.Verdict.{traceVerdict}
-use Rattle.running.specs.Exact.{Attacked, Broken, Short, attacked-attack}
-use Rattle.running.specs.Exact as running
+use Rattle.running.specs.Says.{Attacked, Broken, Short}
+use Rattle.running.specs.VerdictExact.{attacked-attack}
+use Rattle.running.specs.Says as running
 use Rattle.verdicts.specs.PolicySized.{read-sized}
 use Rattle.verdicts.specs.Verdicts as verdicts
 use Rattle.answering.specs.declared.Answer.{Answer}

@@ -10,10 +10,12 @@ use native.Mathlib.Omega.{arith}
 use Rattle.bytes.specs.Bytes.{indexOf, indexAfter}
 use Rattle.tables.specs.declared.Name.{Name}
 use Rattle.text.specs.Forms.{bytes}
-use Rattle.text.specs.Pieces.{split, sameBytes, same-equal}
+use Rattle.text.specs.Pieces.{split, sameBytes}
+use Rattle.text.specs.PieceLaws.{same-equal}
 use Rattle.walking.specs.Texts.{Judged, bad, read}
 use Rattle.walking.specs.Turns.{inTurn}
-use Rattle.walking.specs.Meaning.{LF, Unbroken, none, more, Above, first, next, ReadAs, read-exact}
+use Rattle.walking.specs.Meaning.{LF, Unbroken, none, more, Above, first, next, ReadAs}
+use Rattle.walking.specs.MeaningLaws.{read-exact}
 use Rattle.walking.specs.FirstLine.{first-piece}
 use Rattle.reading.specs.PolicyExact.{whole-piece}
 use Rattle.typings.specs.TypingLines as typing

@@ -7,7 +7,8 @@ use lib.ListN.{drop, List·getD-eq-default}
 use lib.Seq.{drop-drop}
 use native.Mathlib.Omega.{arith}
 use Rattle.tables.specs.declared.Name.{Name}
-use Rattle.tables.specs.Names.{packed, rowOf, rows, rows-length}
+use Rattle.tables.specs.Names.{packed, rowOf, rows}
+use Rattle.tables.specs.NameLaws.{rows-length}
 use Rattle.model.specs.declared.Typing.{Typing as Table}
 use Rattle.walking.specs.Texts.{Reading, read, refused}
 use Rattle.lines.specs.declared.Counts.{Counts}

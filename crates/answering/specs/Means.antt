@@ -5,7 +5,7 @@ use mathlib.Core.Path.{_≡_}
 use Rattle.model.specs.Policy.{State, Run, Bad}
 use Rattle.walking.specs.Texts.{read}
 use Rattle.reading.specs.Policy.{Said, policyOf, readPolicy}
-use Rattle.running.specs.Exact.{attacked-attack}
+use Rattle.running.specs.VerdictExact.{attacked-attack}
 use Rattle.answering.specs.declared.Answer.{Answer}
 use Rattle.answering.specs.Answers.{answerOf}
 use Rattle.answering.specs.Exact.{attacked-exact}

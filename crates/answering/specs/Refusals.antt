@@ -9,16 +9,17 @@ use lib.ListN.{length}
 use native.Mathlib.Omega.{arith}
 use Rattle.walking.specs.Texts.{Judged}
 use Rattle.reading.specs.Policy.{countsOf}
-use Rattle.reading.specs.PolicyExact.{PolicyRefusal, policy-refusal-exact}
+use Rattle.reading.specs.PolicyRefusals.{PolicyRefusal}
+use Rattle.reading.specs.PolicyExact.{policy-refusal-exact}
 use Rattle.walking.specs.Evidence.{EvidenceRefusal}
 use Rattle.typings.specs.TypingText.{tableOf}
-use Rattle.typings.specs.Exact.{typing-refusal-exact}
-use Rattle.traces.specs.Exact.{trace-refusal-exact}
+use Rattle.typings.specs.TypingRefusalExact.{typing-refusal-exact}
+use Rattle.traces.specs.TraceRefusalExact.{trace-refusal-exact}
 use Rattle.judging.specs.declared.TypingVerdict.{TypingVerdict}
 use Rattle.judging.specs.Verdict.{typingVerdict}
 use Rattle.running.specs.declared.TraceVerdict.{TraceVerdict}
 use Rattle.running.specs.Verdict.{traceVerdict}
-use Rattle.running.specs.Exact.{run-refused}
+use Rattle.running.specs.VerdictExact.{run-refused}
 use Rattle.answering.specs.declared.Answer.{Answer}
 use Rattle.answering.specs.Answers.{judgedAnswer, traceAnswer, answerOf}
 use Rattle.answering.specs.CheckRules.{Refused, of-policy, of-typing, of-trace}

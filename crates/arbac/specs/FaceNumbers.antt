@@ -12,7 +12,7 @@ use Rattle.walking.specs.Texts.{Reading, read, refused}
 use Rattle.reading.specs.Policy.{Said, readPolicy}
 use Rattle.reading.specs.PolicyExact.{policy-refusal-exact}
 use Rattle.typings.specs.TypingText.{readTyping, tableOf}
-use Rattle.typings.specs.Exact.{typing-refusal-exact}
+use Rattle.typings.specs.TypingRefusalExact.{typing-refusal-exact}
 use Rattle.judging.specs.declared.TypingVerdict.{TypingVerdict}
 use Rattle.judging.specs.Verdict.{typingVerdict, rulesVerdict, pinnedNames}
 use Rattle.spelling.specs.TypingText.{typingText}

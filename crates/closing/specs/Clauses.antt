@@ -7,7 +7,8 @@ use native.Mathlib.Decide.{decLt}
 use native.Mathlib.Omega.{arith}
 use Rattle.roles.specs.declared.RoleSet.{RoleSet}
 use Rattle.roles.specs.Sets.{emptySet, hasRole}
-use Rattle.roles.specs.Members.{_∈_, Within, Sized, empty-none, union-cases, union-left, union-right, union-sized}
+use Rattle.roles.specs.Members.{_∈_, Within, Sized}
+use Rattle.roles.specs.MemberLaws.{empty-none, union-cases, union-left, union-right, union-sized}
 use Rattle.model.specs.declared.Typing.{Typing as Table}
 use Rattle.model.specs.Typing.{Typing}
 use Rattle.model.specs.Meaning.{meaning}

@@ -3,7 +3,7 @@ use Prim.Native.Nat.{ℕ}
 use mathlib.Core.Path.{_≡_, sym, ap, _∙_}
 use Rattle.roles.specs.declared.RoleSet.{RoleSet}
 use Rattle.roles.specs.Sets.{emptySet, unionOf, apartOf}
-use Rattle.roles.specs.Members.{has-empty, union-comm, union-assoc, union-self, union-empty}
+use Rattle.roles.specs.MemberLaws.{has-empty, union-comm, union-assoc, union-self, union-empty}
 use Rattle.sheets.specs.Turned.{setsOf, Turned}
 use Rattle.sheets.specs.Joining.{sets-none, sets-fresh}
 use Rattle.closing.specs.declared.Pair.{Pair}

@@ -8,7 +8,8 @@ use native.Mathlib.Omega.{arith}
 use Rattle.roles.specs.declared.RoleSet.{RoleSet}
 use Rattle.roles.specs.Sets.{hasRole, sameSet}
 use Rattle.roles.specs.Words.{tally}
-use Rattle.roles.specs.Members.{_∈_, Within, same-members, same-equal, equal-same}
+use Rattle.roles.specs.Members.{_∈_, Within}
+use Rattle.roles.specs.MemberLaws.{same-members, same-equal, equal-same}
 use Rattle.closing.specs.declared.Pair.{Pair}
 use Rattle.closing.specs.Rounds.{samePair}
 use Rattle.closing.specs.Counting.{tally-most, tally-grows, tally-full}

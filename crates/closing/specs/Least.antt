@@ -4,7 +4,8 @@ use mathlib.Core.Bool.{Bool, true, false}
 use mathlib.Core.Logic.{_⊎_, ⊎-elim, _↔_}
 use mathlib.Core.Path.{_≡_, refl, sym, subst}
 use native.Mathlib.Omega.{arith}
-use Rattle.roles.specs.Members.{_∈_, below}
+use Rattle.roles.specs.Members.{_∈_}
+use Rattle.roles.specs.MemberLaws.{below}
 use Rattle.model.specs.declared.Typing.{Typing as Table}
 use Rattle.model.specs.Typing.{Held, Absent}
 use Rattle.model.specs.Meaning.{meaning}

@@ -4,7 +4,7 @@ use mathlib.Core.Bool.{true}
 use mathlib.Core.Logic.{_↔_}
 use mathlib.Core.Path.{_≡_}
 use Rattle.roles.specs.Sets.{sharesRole}
-use Rattle.roles.specs.Members.{shares-share, share-shares}
+use Rattle.roles.specs.MemberLaws.{shares-share, share-shares}
 use Rattle.model.specs.declared.Typing.{Typing as Table}
 use Rattle.model.specs.Typing.{Held, Absent, Clash}
 use Rattle.model.specs.Meaning.{meaning}

@@ -14,7 +14,7 @@ use Rattle.judging.specs.Verdict.{typingVerdict, rulesVerdict}
 use Rattle.summing.specs.Sums.{sumOf}
 use Rattle.summing.specs.Outcome.{leaves}
 use Rattle.merging.specs.declared.MergeAnswer.{MergeAnswer}
-use Rattle.merging.specs.DirectoryLaws.{SameDirectory}
+use Rattle.merging.specs.Directory.{SameDirectory}
 use Rattle.merging.specs.Merge.{countsFit, mergeWritten, mergeCounted, mergeJudged}
 use Rattle.composing.specs.MergeRules.{FirstUnproved, Passing}
 use Rattle.composing.specs.Judgings.{OnPolicy, FailsOnPolicy, OnRules, FailsOnRules, Judging, Failing, judged, passed, failed, on-own, on-other}

@@ -7,10 +7,13 @@ pub mod Judgings
 pub mod Crossed
 pub mod MergeExact
 pub mod Buffer
+pub mod BufferLaws
 pub mod Summed
 pub mod Together
 pub mod ReadBack
 pub mod Checked
+pub mod CheckedLaws
 pub mod SumLaws
 pub mod BadTyping
+pub mod BadTypingLaws
 pub mod Pinned

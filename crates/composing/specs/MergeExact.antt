@@ -15,7 +15,8 @@ use Rattle.judging.specs.declared.Part.{Part}
 use Rattle.summing.specs.Sums.{sumOf}
 use Rattle.summing.specs.Outcome.{Outcome, leaves, answerIn, whenRead}
 use Rattle.merging.specs.declared.MergeAnswer.{MergeAnswer}
-use Rattle.merging.specs.DirectoryLaws.{SameDirectory, same-exact}
+use Rattle.merging.specs.DirectoryLaws.{same-exact}
+use Rattle.merging.specs.Directory.{SameDirectory}
 use Rattle.merging.specs.Merge.{whenSame, countsFit, mergeWritten, mergeJudged, mergeOutcome}
 use Rattle.composing.specs.SumRules.{sumText, TextFits}
 use Rattle.composing.specs.MergeRules.{FirstUnproved, Passing, CountsFit, merged, isMerged, MergeTexts, merge-texts, Merges}

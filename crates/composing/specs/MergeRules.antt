@@ -6,7 +6,7 @@ use mathlib.Core.Path.{_≡_}
 use lib.ListN.{length}
 use Rattle.model.specs.Typing.{Typing, closure, RulesPass, Accepted}
 use Rattle.model.specs.Meaning.{meaning}
-use Rattle.model.specs.Sum.{Compatible}
+use Rattle.model.specs.Typing.{Compatible}
 use Rattle.walking.specs.Texts.{read, refused}
 use Rattle.reading.specs.Policy.{Said, policyOf, readPolicy}
 use Rattle.typings.specs.TypingText.{Typed, readTyping, tableOf}
@@ -16,7 +16,7 @@ use Rattle.judging.specs.Exact.{FirstRule, FirstFailure}
 use Rattle.summing.specs.Sums.{sumOf}
 use Rattle.summing.specs.Outcome.{Outcome, leaves, writes}
 use Rattle.merging.specs.declared.MergeAnswer.{MergeAnswer}
-use Rattle.merging.specs.DirectoryLaws.{SameDirectory}
+use Rattle.merging.specs.Directory.{SameDirectory}
 use Rattle.composing.specs.SumRules.{sumText, TextFits}
 
 -- The first of the four judgings that fails, with the part and the number of its first failure: typing one on policy one,

@@ -9,7 +9,8 @@ use Rattle.reading.specs.Policy.{Said, readPolicy}
 use Rattle.typings.specs.TypingText.{Typed, tableOf}
 use Rattle.judging.specs.Verdict.{pinnedNames}
 use Rattle.rereading.specs.Fits.{Fits, fits-read}
-use Rattle.spelt.specs.Pinned.{namesIn, pinned-counts}
+use Rattle.spelt.specs.Pinned.{namesIn}
+use Rattle.spelt.specs.PinnedExact.{pinned-counts}
 use Rattle.summing.specs.declared.SumAnswer.{SumAnswer}
 use Rattle.summing.specs.Sums.{sumOf}
 use Rattle.summing.specs.Outcome.{answerIn, bufferAfter}
@@ -20,7 +21,8 @@ use Rattle.composing.specs.SumRules.{sumText, TextFits, summed, isSummed
 use Rattle.composing.specs.SumExact.{sum-success}
 use Rattle.composing.specs.MergeRules.{merged, isMerged}
 use Rattle.composing.specs.MergeExact.{merge-success}
-use Rattle.composing.specs.Buffer.{Filled, sum-filled, merge-filled}
+use Rattle.composing.specs.Buffer.{Filled}
+use Rattle.composing.specs.BufferLaws.{sum-filled, merge-filled}
 use Rattle.composing.specs.Summed.{sum-laid}
 use Rattle.composing.specs.Together.{two-fits}
 use Rattle.composing.specs.ReadBack.{text-back}

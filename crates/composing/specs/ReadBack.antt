@@ -9,7 +9,7 @@ use Rattle.typings.specs.TypingText.{Typed, readTyping}
 use Rattle.reading.specs.Sound.{read-sound}
 use Rattle.rereading.specs.Fits.{Fits, fits-read}
 use Rattle.summing.specs.declared.SumAnswer.{SumAnswer}
-use Rattle.summing.specs.SumLaws.{sumTyped}
+use Rattle.summing.specs.Sums.{sumTyped}
 use Rattle.summing.specs.Outcome.{answerIn, bufferAfter}
 use Rattle.summing.specs.Sum.{sumOutcome}
 use Rattle.merging.specs.declared.MergeAnswer.{MergeAnswer}
@@ -18,7 +18,7 @@ use Rattle.composing.specs.SumRules.{sumText, TextFits, isSummed, SumTex
 use Rattle.composing.specs.SumExact.{sum-success}
 use Rattle.composing.specs.MergeRules.{isMerged, MergeTexts, merge-so}
 use Rattle.composing.specs.MergeExact.{merge-success}
-use Rattle.composing.specs.Buffer.{sum-filled, merge-filled}
+use Rattle.composing.specs.BufferLaws.{sum-filled, merge-filled}
 use Rattle.composing.specs.Summed.{sum-back}
 use Rattle.composing.specs.Together.{two-fits}
 

@@ -6,7 +6,7 @@ use mathlib.Core.Logic.{_⊎_, inl, inr}
 use mathlib.Core.Path.{_≡_, refl, sym, ap, ap₂, _∙_}
 use native.Mathlib.Omega.{arith}
 use Rattle.roles.specs.Sets.{unionOf}
-use Rattle.roles.specs.Members.{union-comm, union-assoc, union-self}
+use Rattle.roles.specs.MemberLaws.{union-comm, union-assoc, union-self}
 use Rattle.model.specs.declared.Typing.{Typing as Table}
 use Rattle.tables.specs.declared.Name.{Name}
 use Rattle.walking.specs.Texts.{read}
@@ -16,7 +16,7 @@ use Rattle.spelling.specs.TypingText.{typingText}
 use Rattle.rereading.specs.Fits.{fits-read}
 use Rattle.summing.specs.declared.SumAnswer.{SumAnswer}
 use Rattle.summing.specs.Sums.{paired, sumOf}
-use Rattle.summing.specs.SumLaws.{sumTyped}
+use Rattle.summing.specs.Sums.{sumTyped}
 use Rattle.summing.specs.Outcome.{leaves, writes}
 use Rattle.summing.specs.Sum.{sumWritten, sumOutcome}
 use Rattle.composing.specs.SumRules.{sumText, TextFits}

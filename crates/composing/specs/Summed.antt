@@ -8,7 +8,7 @@ use lib.ListN.{length, replicate, length-append, length-replicate}
 use native.Mathlib.Omega.{arith}
 use Rattle.roles.specs.declared.RoleSet.{RoleSet}
 use Rattle.roles.specs.Sets.{emptySet, unionOf}
-use Rattle.roles.specs.Members.{union-cases, union-sized}
+use Rattle.roles.specs.MemberLaws.{union-cases, union-sized}
 use Rattle.model.specs.declared.Typing.{Typing as Table}
 use Rattle.model.specs.Typing.{sum}
 use Rattle.model.specs.Meaning.{meaning}
@@ -22,7 +22,8 @@ use Rattle.rereading.specs.Fits.{Fits}
 use Rattle.fields.specs.Roles.{Inside}
 use Rattle.rereading.specs.Back.{reads-back}
 use Rattle.summing.specs.Sums.{paired, sumOf}
-use Rattle.summing.specs.SumLaws.{Full, sum-meaning, sumTyped, Even, table-sum}
+use Rattle.summing.specs.SumLaws.{Full, sum-meaning, Even, table-sum}
+use Rattle.summing.specs.Sums.{sumTyped}
 
 -- ---- two columns of as many elements, element by element
 

@@ -12,7 +12,8 @@ use native.Mathlib.Nat.{add-zero}
 use native.Mathlib.Numerals.{add-one}
 use native.Mathlib.Omega.{arith}
 use Rattle.text.specs.Repeats.{repeated-moved}
-use Rattle.text.specs.Pieces.{onto, split, sameBytes, among, repeated, same-equal, equal-same}
+use Rattle.text.specs.Pieces.{onto, split, sameBytes, among, repeated}
+use Rattle.text.specs.PieceLaws.{same-equal, equal-same}
 
 -- the byte at a place, and a comma past the last byte: each name ends at a comma
 unfoldable pub symbol : List ℕ → ℕ → ℕ

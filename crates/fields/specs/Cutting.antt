@@ -4,7 +4,8 @@ use mathlib.Core.List.{List, [], _∷_}
 use mathlib.Core.Path.{_≡_, ap, _∙_}
 use lib.ListN.{length, drop}
 use native.Mathlib.Omega.{arith}
-use Rattle.text.specs.Pieces.{split, split-piece, Sought, part, Passed, passed-none, passed-next, passed-last}
+use Rattle.text.specs.Pieces.{split, Sought, part}
+use Rattle.text.specs.PieceLaws.{split-piece, Passed, passed-none, passed-next, passed-last}
 
 module _ {line : List ℕ} {a : ℕ} (first : Sought line 0 9 a) where
   pub one-field : a ≡ length line → split 9 line ≡ part line 0 a ∷ []

@@ -9,7 +9,8 @@ use lib.Dec.{ltb}
 use lib.ListN.{length}
 use Rattle.roles.specs.declared.RoleSet.{RoleSet}
 use Rattle.roles.specs.Sets.{emptySet, withOf}
-use Rattle.roles.specs.Members.{_∈_, Sized, with-cases, with-old, empty-none, empty-sized, with-sized}
+use Rattle.roles.specs.Members.{_∈_, Sized}
+use Rattle.roles.specs.MemberLaws.{with-cases, with-old, empty-none, empty-sized, with-sized}
 use Rattle.tables.specs.declared.Name.{Name}
 use Rattle.text.specs.Forms.{every, namesOf}
 use Rattle.fields.specs.Fields.{placed, isDeclared, allDeclared, rolesFrom, rolesOf}

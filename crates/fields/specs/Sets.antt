@@ -9,11 +9,13 @@ use lib.ListN.{length, take, drop}
 use native.Mathlib.Omega.{arith}
 use Rattle.roles.specs.declared.RoleSet.{RoleSet}
 use Rattle.roles.specs.Sets.{hasRole, emptySet, withOf}
-use Rattle.roles.specs.Members.{has-empty, has-with}
+use Rattle.roles.specs.MemberLaws.{has-empty, has-with}
 use Rattle.tables.specs.declared.Name.{Name}
-use Rattle.text.specs.Forms.{bytes, every, every-more, isName, isSet, namesOf}
-use Rattle.tables.specs.Names.{packed-one-to-one, place-one-to-one}
-use Rattle.text.specs.Pieces.{split, sameBytes, among, repeated, same-equal, equal-same, Sought, sought-start}
+use Rattle.text.specs.Forms.{bytes, every, isName, isSet, namesOf}
+use Rattle.text.specs.FormLaws.{every-more}
+use Rattle.tables.specs.NameLaws.{packed-one-to-one, place-one-to-one}
+use Rattle.text.specs.Pieces.{split, sameBytes, among, repeated, Sought}
+use Rattle.text.specs.PieceLaws.{same-equal, equal-same, sought-start}
 use Rattle.text.specs.Repeats.{still-single, now-repeated, repeated-start}
 use Rattle.fields.specs.Fields.{placed, isDeclared, allDeclared, rolesFrom, rolesOf, faultOf, areSet, malformedSet, undeclaredSet, setRead}
 

@@ -18,7 +18,7 @@ use Rattle.sheets.specs.Turned.{turnedOf}
 use Rattle.rules.specs.Tests.{personPasses, assignPasses, revokePasses, goalPasses}
 use Rattle.rules.specs.Exact.{Laid, person-exact, assign-exact, revoke-exact, goal-exact}
 use Rattle.reading.specs.Policy.{Said, policyOf}
-use Rattle.steps.specs.Places.{at-inside, at-stands, stands-at, at-listed, listed-at}
+use Rattle.steps.specs.PlaceLaws.{at-inside, at-stands, stands-at, at-listed, listed-at}
 use Rattle.judging.specs.declared.Part.{Part}
 use Rattle.judging.specs.declared.TypingVerdict.{TypingVerdict}
 use Rattle.judging.specs.Verdict.{subjectOf, firstHolding, firstAssign, firstRevoke, firstGoal, failingPart, andThen, rulesSaid, allSaid, judgedRules, judgedTyping, rulesVerdict, typingVerdict}

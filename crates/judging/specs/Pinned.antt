@@ -8,7 +8,8 @@ use native.Mathlib.Omega.{arith}
 use Rattle.roles.specs.declared.RoleSet.{RoleSet}
 use Rattle.roles.specs.Sets.{emptySet, hasRole, sizeOf}
 use Rattle.roles.specs.Words.{tally}
-use Rattle.roles.specs.Members.{Sized, empty-sized, size-members}
+use Rattle.roles.specs.Members.{Sized}
+use Rattle.roles.specs.MemberLaws.{empty-sized, size-members}
 use Rattle.model.specs.declared.Typing.{Typing as Table}
 use Rattle.model.specs.Meaning.{meaning}
 use Rattle.model.specs.Typing.{Typing}

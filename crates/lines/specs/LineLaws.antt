@@ -10,14 +10,17 @@ use lib.ListN.{length}
 use Rattle.model.specs.Policy.{assigning}
 use Rattle.tables.specs.declared.Name.{Name}
 use Rattle.text.specs.Forms.{bytes, isName, isSet}
-use Rattle.text.specs.Pieces.{split, sameBytes, split-piece}
-use Rattle.walking.specs.Turns.{inTurn, turn-good}
+use Rattle.text.specs.Pieces.{split, sameBytes}
+use Rattle.text.specs.PieceLaws.{split-piece}
+use Rattle.walking.specs.Turns.{inTurn}
+use Rattle.walking.specs.TurnLaws.{turn-good}
 use Rattle.fields.specs.declared.NameRead.{NameRead}
 use Rattle.fields.specs.declared.SetRead.{SetRead}
 use Rattle.lines.specs.declared.Counts.{Counts}
 use Rattle.lines.specs.declared.Entry.{Entry}
 use Rattle.lines.specs.declared.PolicyLine.{PolicyLine}
-use Rattle.fields.specs.Fields.{placed, isDeclared, allDeclared, rolesOf, faultOf, nameRead, setRead, worse, at-place, roles-read, set-fault, name-fault}
+use Rattle.fields.specs.Fields.{placed, isDeclared, allDeclared, rolesOf, faultOf, nameRead, setRead}
+use Rattle.fields.specs.FieldLaws.{worse, at-place, roles-read, set-fault, name-fault}
 use Rattle.lines.specs.Lines.{Line, asked, assign, assignKind, comesTo, end, fiveFields, goal, goalKind, has, hasKind, header, inOrder, judged, lineOf, oneField, other, policyLine, revoke, revokeKind, role, tests, threeFields, twoFields, user}
 
 -- A line whose fields have one fault together is judged by that fault; what it says counts only where there is none.

@@ -31,3 +31,9 @@ sameTables d e =
     sameLists sameName (rows (d .counts .roles) (d .roles)) (rows (e .counts .roles) (e .roles))
     && sameLists sameName (rows (d .counts .users) (d .users)) (rows (e .counts .users) (e .users))
     && sameLists samePerson (take (d .counts .users) (d .persons)) (take (e .counts .users) (e .persons))
+
+-- The same roles in order, the same users in order, with the same clearances and holdings.
+pub record SameDirectory (s s′ : Said) : Type 0 where
+  pub roles : s .roles ≡ s′ .roles
+  pub users : s .users ≡ s′ .users
+  pub holdings : s .holdings ≡ s′ .holdings

@@ -10,11 +10,12 @@ use lib.ListN.{length, take, replicate}
 use lib.Seq.{take-at}
 use native.Mathlib.Omega.{arith}
 use Rattle.roles.specs.Sets.{sameSet}
-use Rattle.roles.specs.Members.{same-equal, equal-same}
+use Rattle.roles.specs.MemberLaws.{same-equal, equal-same}
 use Rattle.model.specs.declared.Person.{Person}
 use Rattle.model.specs.Policy.{nobody}
 use Rattle.tables.specs.declared.Name.{Name}
-use Rattle.tables.specs.Names.{sameName, placeOf, rows, rows-length, place-one-to-one}
+use Rattle.tables.specs.Names.{sameName, placeOf, rows}
+use Rattle.tables.specs.NameLaws.{rows-length, place-one-to-one}
 use Rattle.reading.specs.declared.directory.Directory.{Directory}
 use Rattle.reading.specs.declared.policy.Rules.{Rules}
 use Rattle.reading.specs.Policy.{Said}
@@ -73,12 +74,6 @@ person-exact p q = (
 )
 
 -- ---- the directories of two policy texts
-
--- The same roles in order, the same users in order, with the same clearances and holdings.
-pub record SameDirectory (s s′ : Said) : Type 0 where
-  pub roles : s .roles ≡ s′ .roles
-  pub users : s .users ≡ s′ .users
-  pub holdings : s .holdings ≡ s′ .holdings
 
 -- They are compared exactly.
 pub same-exact : (s s′ : Said) → sameDirectory s s′ ≡ true ↔ SameDirectory s s′

@@ -6,7 +6,8 @@ use mathlib.Core.Path.{_≡_, sym, subst, _∙_}
 use lib.ListN.{set}
 use Rattle.roles.specs.declared.RoleSet.{RoleSet}
 use Rattle.roles.specs.Sets.{withOf, withoutOf}
-use Rattle.roles.specs.Members.{_∈_, Share, Within, below, empty-none, with-cases, with-old, with-new, without-old, without-gone, without-other}
+use Rattle.roles.specs.Members.{_∈_, Share, Within}
+use Rattle.roles.specs.MemberLaws.{below, empty-none, with-cases, with-old, with-new, without-old, without-gone, without-other}
 use Rattle.model.specs.declared.Assign.{Assign}
 use Rattle.model.specs.declared.Revoke.{Revoke}
 use Rattle.model.specs.declared.Person.{Person}

@@ -5,12 +5,12 @@ use mathlib.Core.List.{List, List·Memᴰ as Listed, List·Memᴰ·append-cases,
 use mathlib.Core.Logic.{_⊎_, inl, inr, ⊎-elim}
 use mathlib.Core.Path.{_≡_, refl, sym, ap, ap₂, _∙_}
 use Rattle.roles.specs.declared.RoleSet.{RoleSet}
-use Rattle.roles.specs.Members.{union-cases, union-left, union-comm, union-assoc, union-self}
+use Rattle.roles.specs.MemberLaws.{union-cases, union-left, union-comm, union-assoc, union-self}
 use Rattle.model.specs.declared.Assign.{Assign}
 use Rattle.model.specs.declared.Revoke.{Revoke}
 use Rattle.model.specs.declared.Person.{Person}
 use Rattle.model.specs.Policy.{Label, H, Policy, joint, State, Run, Bad}
-use Rattle.model.specs.Typing.{Typing, Inconsistent, Closing, closure, UpTo, Clash, Suits, HeldFor, AbsentFor, AssignPasses, RevokePasses, WellTyped, GoalPasses, RulesPass, AcceptedBy, Accepted, sum}
+use Rattle.model.specs.Typing.{Typing, Inconsistent, Closing, closure, UpTo, Clash, Suits, HeldFor, AbsentFor, AssignPasses, RevokePasses, WellTyped, GoalPasses, RulesPass, AcceptedBy, Accepted, sum, Compatible}
 use Rattle.model.specs.Closure.{Below, Grows, closure-grows, closure-truthful}
 use Rattle.model.specs.Safety.{accepted-by-safe}
 
@@ -153,13 +153,6 @@ rules-joint P Q one two = record {
   assigns = λ listed. ⊎-elim (one .assigns) (two .assigns) (List·Memᴰ·append-cases (P .assigns) listed);
   revokes = λ listed. ⊎-elim (one .revokes) (two .revokes) (List·Memᴰ·append-cases (P .revokes) listed);
 }
-
--- Two policies over the same start state, each typing accepted for its own policy and passing the other's rules.
-pub record Compatible (C : Closing) (Γ Δ : Typing) (P Q : Policy) (σ : State) : Type 0 where
-  pub one : AcceptedBy C Γ P σ
-  pub two : AcceptedBy C Δ Q σ
-  pub one-on-two : RulesPass C Γ Q
-  pub two-on-one : RulesPass C Δ P
 
 pub sum-accepted-by : {C : Closing} {Γ Δ : Typing} {P Q : Policy} {σ : State} → Grows C → Compatible C Γ Δ P Q σ → AcceptedBy C (sum Γ Δ) (joint P Q) σ
 unfolding joint

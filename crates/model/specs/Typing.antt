@@ -123,3 +123,10 @@ sum Γ Δ = record {
   plus = λ role. unionOf (Γ .plus role) (Δ .plus role);
   minus = λ role. unionOf (Γ .minus role) (Δ .minus role);
 }
+
+-- Two policies over the same start state, each typing accepted for its own policy and passing the other's rules.
+pub record Compatible (C : Closing) (Γ Δ : Typing) (P Q : Policy) (σ : State) : Type 0 where
+  pub one : AcceptedBy C Γ P σ
+  pub two : AcceptedBy C Δ Q σ
+  pub one-on-two : RulesPass C Γ Q
+  pub two-on-one : RulesPass C Δ P

@@ -7,7 +7,8 @@ use lib.Dec.{lit<}
 use native.Mathlib.Omega.{arith}
 use Rattle.roles.specs.declared.RoleSet.{RoleSet}
 use Rattle.roles.specs.Sets.{bit, hasRole, emptySet, singleOf, unionOf, meetOf, withOf, sameSet, sharesRole, includes}
-use Rattle.roles.specs.Members.{_∈_, empty-none, single-only, single-own, with-old, with-new, share-none, includes-within}
+use Rattle.roles.specs.Members.{_∈_}
+use Rattle.roles.specs.MemberLaws.{empty-none, single-only, single-own, with-old, with-new, share-none, includes-within}
 use Rattle.model.specs.declared.Assign.{Assign}
 use Rattle.model.specs.declared.Person.{Person}
 use Rattle.model.specs.Policy.{Label, L, H, Policy, assigning, State, nobody, person, Present, CanAssign, withRole, granted, Step, Runs}

@@ -13,13 +13,14 @@ use Rattle.walking.specs.Texts.{Judged, Reading, read, refused}
 use Rattle.walking.specs.Evidence.{EvidenceRefusal}
 use Rattle.walking.specs.Evidence as evidences
 use Rattle.reading.specs.Policy.{Said, readPolicy}
-use Rattle.reading.specs.PolicyExact.{PolicyRefusal, policy-refusal-exact}
-use Rattle.reading.specs.PolicyExact as policies
+use Rattle.reading.specs.PolicyRefusals.{PolicyRefusal}
+use Rattle.reading.specs.PolicyExact.{policy-refusal-exact}
+use Rattle.reading.specs.PolicyRefusals as policies
 use Rattle.typings.specs.Kind.{isTyping}
 use Rattle.typings.specs.TypingText.{readTyping}
-use Rattle.typings.specs.Exact.{typing-refusal-exact}
+use Rattle.typings.specs.TypingRefusalExact.{typing-refusal-exact}
 use Rattle.traces.specs.TraceText.{readTrace}
-use Rattle.traces.specs.Exact.{trace-refusal-exact}
+use Rattle.traces.specs.TraceRefusalExact.{trace-refusal-exact}
 use Rattle.places.specs.declared.Refusal.{Refusal}
 use Rattle.places.specs.declared.Span.{Span}
 use Rattle.places.specs.declared.BadPlace.{BadPlace}

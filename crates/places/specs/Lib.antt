@@ -6,3 +6,4 @@ pub mod LinePlaces
 pub mod LineNumbers
 pub mod BadLineExact
 pub mod Answered
+pub mod AnsweredLaws

@@ -9,9 +9,11 @@ use lib.ListN.{length, getD, length-append}
 use lib.Seq.{getD-at}
 use native.Mathlib.Decide.{ℕ-discrete}
 use native.Mathlib.Omega.{arith}
-use Rattle.text.specs.Pieces.{split, onto, split-piece}
+use Rattle.text.specs.Pieces.{split, onto}
+use Rattle.text.specs.PieceLaws.{split-piece}
 use Rattle.walking.specs.Texts.{Judged}
-use Rattle.walking.specs.Meaning.{LF, Unbroken, Above, LineAt, one-piece, line-piece}
+use Rattle.walking.specs.Meaning.{LF, Unbroken, Above, LineAt}
+use Rattle.walking.specs.MeaningLaws.{one-piece, line-piece}
 use Rattle.walking.specs.Meaning as exact
 use Rattle.places.specs.BadLines.{lineAt, HasLine, PastLast}
 use Rattle.places.specs.LinePlaces.{some-piece}

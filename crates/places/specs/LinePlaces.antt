@@ -9,7 +9,8 @@ use lib.Seq.{take-length, length-take-le, drop-drop}
 use native.Mathlib.Decide.{decLt}
 use native.Mathlib.Omega.{arith}
 use Rattle.bytes.specs.Bytes.{indexOf}
-use Rattle.text.specs.Pieces.{split, split-none, split-some, split-piece}
+use Rattle.text.specs.Pieces.{split}
+use Rattle.text.specs.PieceLaws.{split-none, split-some, split-piece}
 use Rattle.walking.specs.Meaning.{LF}
 use Rattle.places.specs.Place.{noSpan, spanOf}
 use Rattle.places.specs.PlaceLaws.{index-most}

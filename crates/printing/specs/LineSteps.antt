@@ -7,7 +7,7 @@ use lib.ListN.{length, set, length-set, length-drop}
 use native.Mathlib.Omega.{arith}
 use Rattle.tables.specs.declared.Name.{Name}
 use Rattle.text.specs.Forms.{bytes}
-use Rattle.text.specs.Pieces.{part-rest}
+use Rattle.text.specs.PieceLaws.{part-rest}
 use Rattle.judging.specs.declared.Part.{Part}
 use Rattle.writing.specs.Written.{put, spelled, decimal}
 use Rattle.writing.specs.Buffers.{Wrote, from, back, wrote, wrote-as, wrote-more, wrote-byte}

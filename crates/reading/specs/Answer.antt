@@ -5,8 +5,10 @@ use mathlib.Core.List.{List, [], _∷_}
 use mathlib.Core.Path.{_≡_, refl, sym, _∙_}
 use lib.Dec.{eqb}
 use Rattle.text.specs.Pieces.{split}
-use Rattle.walking.specs.Turns.{test, inTurn, turn-good, turn-made, turn-parted}
-use Rattle.walking.specs.Texts.{Judged, goes, ends, bad, goes-one, goes-bad, goes-ends}
+use Rattle.walking.specs.Turns.{test, inTurn}
+use Rattle.walking.specs.TurnLaws.{turn-good, turn-made, turn-parted}
+use Rattle.walking.specs.Texts.{Judged, goes, ends, bad}
+use Rattle.walking.specs.TextLaws.{goes-one, goes-bad, goes-ends}
 use Rattle.lines.specs.declared.Entry.{Entry}
 use Rattle.lines.specs.declared.PolicyLine.{PolicyLine}
 use Rattle.lines.specs.Lines.{comesTo, tests, judged, policyLine, lineOf, endKind}

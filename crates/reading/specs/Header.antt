@@ -5,7 +5,8 @@ use mathlib.Core.List.{List, [], _∷_, _++_}
 use mathlib.Core.Path.{_≡_, refl, ap₂, _∙_}
 use lib.ListN.{length}
 use Rattle.text.specs.Forms.{bytes}
-use Rattle.text.specs.Pieces.{split, sameBytes, same-equal}
+use Rattle.text.specs.Pieces.{split, sameBytes}
+use Rattle.text.specs.PieceLaws.{same-equal}
 use Rattle.text.specs.Begins.{begins}
 use Rattle.walking.specs.Texts.{Judged, bad, refused}
 use Rattle.walking.specs.FirstLine.{first-piece, not-begun}

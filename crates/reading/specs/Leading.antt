@@ -7,7 +7,8 @@ use borrow.Author.Tests.{lt-ltb, le-ltb}
 use lib.ListN.{length, drop, length-drop, length-take, drop-of-length-le}
 use native.Mathlib.Numerals.{add-one}
 use native.Mathlib.Omega.{arith}
-use Rattle.text.specs.Pieces.{split, split-piece, part, Sought, sought-some, sought-last}
+use Rattle.text.specs.Pieces.{split, part, Sought}
+use Rattle.text.specs.PieceLaws.{split-piece, sought-some, sought-last}
 use Rattle.walking.specs.Texts.{Judged, goes, bad, read, refused}
 use Rattle.lines.specs.Lines.{assignKind}
 use Rattle.reading.specs.Policy.{Said, nothing, judgeLine}

@@ -4,6 +4,7 @@ pub mod Answer
 pub mod Sound
 pub mod Directory
 pub mod Rules
+pub mod PolicyRefusals
 pub mod PolicyExact
 pub mod Header
 pub mod Order

@@ -11,7 +11,8 @@ use native.Mathlib.Omega.{arith}
 use Rattle.text.specs.Pieces.{split}
 use Rattle.lines.specs.declared.Counts.{Counts}
 use Rattle.lines.specs.Lines.{assignKind}
-use Rattle.walking.specs.Texts.{Judged, goes, ends, bad, Reading, read, refused, readLines, onward, text-long}
+use Rattle.walking.specs.Texts.{Judged, goes, ends, bad, Reading, read, refused, readLines, onward}
+use Rattle.walking.specs.TextLaws.{text-long}
 use Rattle.walking.specs.Walk.{On, on-start}
 use Rattle.reading.specs.Policy.{Said, nothing, countsOf, judgeLine, readPolicy}
 use Rattle.reading.specs.Sound.{Sound, at-stage, line-sound, nothing-sound}

@@ -10,7 +10,7 @@ use lib.ListN.{length, length-append, length-set}
 use native.Mathlib.Omega.{arith}
 use Rattle.roles.specs.declared.RoleSet.{RoleSet}
 use Rattle.roles.specs.Sets.{emptySet, withOf}
-use Rattle.roles.specs.Members.{empty-none, empty-sized, with-cases, with-sized}
+use Rattle.roles.specs.MemberLaws.{empty-none, empty-sized, with-cases, with-sized}
 use Rattle.model.specs.declared.Assign.{Assign}
 use Rattle.model.specs.declared.Revoke.{Revoke}
 use Rattle.model.specs.declared.Person.{Person}

@@ -23,7 +23,8 @@ use Rattle.tables.specs.Storing.{table-room, table-names}
 use Rattle.walking.specs.Kept.{lines-keep}
 use Rattle.reading.specs.Order.{stage-up, directory-stays}
 use Rattle.reading.specs.Opened.{Opened, Begins, Outcome, directory-exact}
-use Rattle.reading.specs.PolicyExact.{PolicyRefusal, policy-refusal-exact}
+use Rattle.reading.specs.PolicyRefusals.{PolicyRefusal}
+use Rattle.reading.specs.PolicyExact.{policy-refusal-exact}
 
 -- what a policy says, within the limits, laid out in both records
 pub record Laid (s : Said) (D : Directory) (R : Rules) : Type 0 where

@@ -15,8 +15,9 @@ use Rattle.tables.specs.declared.Name.{Name}
 use Rattle.text.specs.Forms.{bytes, every}
 use Rattle.tables.specs.Names.{placeOf}
 use Rattle.text.specs.Pieces.{split}
-use Rattle.walking.specs.Texts.{Judged, goes, ends, read, readLines, lines-next, onward-goes, onward-ends, closing-none, text-fits}
-use Rattle.steps.specs.Places.{stands-at, at-listed}
+use Rattle.walking.specs.Texts.{Judged, goes, ends, read, readLines}
+use Rattle.walking.specs.TextLaws.{lines-next, onward-goes, onward-ends, closing-none, text-fits}
+use Rattle.steps.specs.PlaceLaws.{stands-at, at-listed}
 use Rattle.spelling.specs.TypingText.{rowText, rowsText, typingText}
 use Rattle.typings.specs.TypingLines.{typingLine}
 use Rattle.typings.specs.TypingText.{Typed, untyped, added, answered, judgeLine, readTyping, tableOf}

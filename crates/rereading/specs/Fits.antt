@@ -14,9 +14,9 @@ use Rattle.text.specs.Pieces.{split}
 use Rattle.walking.specs.Texts.{Judged, goes, ends, bad, read}
 use Rattle.fields.specs.Fields.{placed, allDeclared}
 use Rattle.fields.specs.Roles.{Inside, roles-inside}
-use Rattle.walking.specs.Turns.{turn-cases}
+use Rattle.walking.specs.TurnLaws.{turn-cases}
 use Rattle.walking.specs.Kept.{text-keeps}
-use Rattle.walking.specs.Meaning.{read-exact}
+use Rattle.walking.specs.MeaningLaws.{read-exact}
 use Rattle.typings.specs.declared.TypingLine.{TypingLine}
 use Rattle.typings.specs.TypingLines.{Line, header, row, end, other, lineOf, wellFormed, named, entry, judged, typingLine}
 use Rattle.typings.specs.TypingText.{Typed, untyped, added, answered, judgeLine, readTyping}

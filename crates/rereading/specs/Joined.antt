@@ -7,7 +7,8 @@ use borrow.Author.Tests.{ne-eqb}
 use lib.Dec.{leb}
 use lib.ListN.{length}
 use native.Mathlib.Omega.{arith}
-use Rattle.text.specs.Forms.{bytes, every, between, nameByte, isName, namesOf, name-byte-range}
+use Rattle.text.specs.Forms.{bytes, every, between, nameByte, isName, namesOf}
+use Rattle.text.specs.FormLaws.{name-byte-range}
 use Rattle.text.specs.Pieces.{split, sameBytes}
 use Rattle.spelling.specs.TypingText.{joinedAfter, joined}
 use Rattle.rereading.specs.Cuts.{free, cut-first, cut-last, free-join, free-name}

@@ -17,7 +17,8 @@ use Rattle.writing.specs.Written.{spelled}
 use Rattle.spelling.specs.TypingText.{setText, labelText}
 use Rattle.typings.specs.declared.TypingEntry.{TypingEntry}
 use Rattle.typings.specs.declared.TypingLine.{TypingLine}
-use Rattle.walking.specs.Turns.{inTurn, turn-passes}
+use Rattle.walking.specs.Turns.{inTurn}
+use Rattle.walking.specs.TurnLaws.{turn-passes}
 use Rattle.typings.specs.TypingLines.{row, oneField, twoFields, lineOf, wellFormed, named, entry, judged, typingLine}
 use Rattle.rereading.specs.Cuts.{free, cut-first, cut-last, free-join, free-name}
 use Rattle.rereading.specs.Joined.{Apart}

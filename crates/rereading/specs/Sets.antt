@@ -9,7 +9,8 @@ use native.Mathlib.Decide.{ℕ-discrete}
 use native.Mathlib.Omega.{arith}
 use Rattle.roles.specs.declared.RoleSet.{RoleSet}
 use Rattle.roles.specs.Sets.{hasRole, emptySet, withOf}
-use Rattle.roles.specs.Members.{_∈_, Sized, with-new, same-members, below as role-below}
+use Rattle.roles.specs.Members.{_∈_, Sized}
+use Rattle.roles.specs.MemberLaws.{with-new, same-members, below as role-below}
 use Rattle.tables.specs.declared.Name.{Name}
 use Rattle.text.specs.Forms.{every, isName, isSet, namesOf}
 use Rattle.text.specs.Pieces.{repeated}

@@ -12,9 +12,10 @@ use Rattle.roles.specs.Members.{_∈_}
 use Rattle.tables.specs.declared.Name.{Name}
 use Rattle.text.specs.Forms.{every, isName}
 use Rattle.tables.specs.Names.{packed, placeOf}
-use Rattle.text.specs.Pieces.{sameBytes, among, repeated, same-equal}
+use Rattle.text.specs.Pieces.{sameBytes, among, repeated}
+use Rattle.text.specs.PieceLaws.{same-equal}
 use Rattle.fields.specs.Fields.{placed}
-use Rattle.steps.specs.Places.{stands-at, at-listed}
+use Rattle.steps.specs.PlaceLaws.{stands-at, at-listed}
 use Rattle.writing.specs.Written.{spelled}
 use Rattle.writing.specs.Spelling.{spelled-packed}
 use Rattle.spelling.specs.TypingText.{namesFrom}

@@ -4,7 +4,8 @@ use mathlib.Core.Logic.{_↔_, _⊎_, inl, inr, ⊎-elim}
 use mathlib.Core.Path.{_≡_, refl}
 use Rattle.roles.specs.declared.RoleSet.{RoleSet}
 use Rattle.roles.specs.Sets.{sharesRole, includes}
-use Rattle.roles.specs.Members.{Share, Within, Sized, includes-within, within-includes, shares-share, share-shares}
+use Rattle.roles.specs.Members.{Share, Within, Sized}
+use Rattle.roles.specs.MemberLaws.{includes-within, within-includes, shares-share, share-shares}
 
 -- one of the two holds
 pub either-exact : (a b : Bool) {A B : Type 0} → a ≡ true ↔ A → b ≡ true ↔ B → (a || b) ≡ true ↔ (A ⊎ B)

@@ -2,4 +2,5 @@
 pub mod Sets
 pub mod Words
 pub mod Members
+pub mod MemberLaws
 pub mod Joined

@@ -7,7 +7,8 @@ use native.Mathlib.Decide.{decLt}
 use native.Mathlib.Omega.{arith}
 use Rattle.roles.specs.declared.RoleSet.{RoleSet}
 use Rattle.roles.specs.Sets.{emptySet, hasRole, singleOf, withOf, withoutOf, sharesRole, includes}
-use Rattle.roles.specs.Members.{_∈_, Share, Within, Sized, below, absent-test, empty-sized, single-own, single-only, with-cases, with-old, with-new, without-old, without-gone, without-other, with-sized}
+use Rattle.roles.specs.Members.{_∈_, Share, Within, Sized}
+use Rattle.roles.specs.MemberLaws.{below, absent-test, empty-sized, single-own, single-only, with-cases, with-old, with-new, without-old, without-gone, without-other, with-sized}
 use Rattle.roles.specs.Joined.{either-exact, both-exact, not-exact, share-exact, within-exact}
 use Rattle.model.specs.declared.Typing.{Typing as Table}
 use Rattle.model.specs.declared.Assign.{Assign}

@@ -5,4 +5,5 @@ pub mod Ends
 pub mod Range
 pub mod Trying
 pub mod Reached
-pub mod Exact
+pub mod Says
+pub mod VerdictExact

@@ -10,7 +10,7 @@ use native.Mathlib.Omega.{arith}
 use Rattle.tables.specs.declared.Name.{Name}
 use Rattle.text.specs.Forms.{isName, numberOf}
 use Rattle.text.specs.Pieces.{split}
-use Rattle.walking.specs.Turns.{turn-good}
+use Rattle.walking.specs.TurnLaws.{turn-good}
 use Rattle.fields.specs.Fields.{placed, isDeclared}
 use Rattle.steps.specs.declared.Step.{Step}
 use Rattle.traces.specs.declared.TraceLine.{TraceLine}

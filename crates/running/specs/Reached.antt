@@ -10,7 +10,8 @@ use native.Mathlib.Omega.{arith}
 use Rattle.roles.specs.declared.RoleSet.{RoleSet}
 use Rattle.model.specs.declared.Person.{Person}
 use Rattle.model.specs.Policy.{State}
-use Rattle.tables.specs.Names.{rows, rows-length}
+use Rattle.tables.specs.Names.{rows}
+use Rattle.tables.specs.NameLaws.{rows-length}
 use Rattle.text.specs.Forms.{bytes}
 use Rattle.text.specs.Pieces.{part, sameBytes, Sought}
 use Rattle.text.specs.Begins.{begins}

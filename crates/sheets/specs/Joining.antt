@@ -7,7 +7,7 @@ use native.Mathlib.Decide.{decLt}
 use native.Mathlib.Omega.{arith}
 use Rattle.roles.specs.declared.RoleSet.{RoleSet}
 use Rattle.roles.specs.Sets.{emptySet, hasRole, unionOf, apartOf, withoutOf, lowestRole}
-use Rattle.roles.specs.Members.{has-apart, has-without, union-comm, union-assoc, union-self, union-empty, lowest-none}
+use Rattle.roles.specs.MemberLaws.{has-apart, has-without, union-comm, union-assoc, union-self, union-empty, lowest-none}
 use Rattle.sheets.specs.Turned.{addOwn, setsBelow, setsOf}
 use Rattle.sheets.specs.Taking.{taken-held}
 

@@ -7,7 +7,8 @@ use native.Mathlib.Decide.{decLt}
 use native.Mathlib.Omega.{arith}
 use Rattle.roles.specs.declared.RoleSet.{RoleSet}
 use Rattle.roles.specs.Sets.{hasRole, singleOf}
-use Rattle.roles.specs.Members.{_∈_, Sized, below, union-cases, union-left, union-right, single-own, single-only, empty-none, empty-sized, union-sized, single-sized}
+use Rattle.roles.specs.Members.{_∈_, Sized}
+use Rattle.roles.specs.MemberLaws.{below, union-cases, union-left, union-right, single-own, single-only, empty-none, empty-sized, union-sized, single-sized}
 use Rattle.sheets.specs.Turned.{addIf, addOwn, rolesBelow, setsBelow, setsOf}
 
 -- a number below the next one is below this one, or it is this one

@@ -7,7 +7,7 @@ use borrow.Author.Tests.{eqb-true, eqb-false, eq-eqb, ne-eqb}
 use lib.Dec.{eqb}
 use Rattle.roles.specs.declared.RoleSet.{RoleSet}
 use Rattle.roles.specs.Sets.{hasRole, singleOf, withOf, withoutOf, lowestRole}
-use Rattle.roles.specs.Members.{has-without, lowest-none}
+use Rattle.roles.specs.MemberLaws.{has-without, lowest-none}
 use Rattle.sheets.specs.declared.Column.{Column}
 use Rattle.sheets.specs.Turned.{addIf}
 use Rattle.sheets.specs.Words.{setIn}

@@ -6,7 +6,7 @@ use native.Mathlib.Omega.{arith}
 use Rattle.roles.specs.declared.RoleSet.{RoleSet}
 use Rattle.roles.specs.Sets.{hasRole, withoutOf, lowestRole}
 use Rattle.roles.specs.Words.{tally}
-use Rattle.roles.specs.Members.{lowest-has, tally-without}
+use Rattle.roles.specs.MemberLaws.{lowest-has, tally-without}
 
 -- how many members a set has
 abbrev pub many : RoleSet → ℕ

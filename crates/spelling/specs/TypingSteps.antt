@@ -15,7 +15,8 @@ use Rattle.model.specs.Typing.{Typing}
 use Rattle.model.specs.Meaning.{meaning}
 use Rattle.tables.specs.declared.Name.{Name}
 use Rattle.text.specs.Forms.{bytes}
-use Rattle.tables.specs.Names.{rowOf, rows, rows-length}
+use Rattle.tables.specs.Names.{rowOf, rows}
+use Rattle.tables.specs.NameLaws.{rows-length}
 use Rattle.writing.specs.Written.{spelled}
 use Rattle.spelling.specs.TypingText.{namesFrom, joinedAfter, joined, setText, labelText, rowText, rowsText, typingText}
 use Rattle.spelling.specs.Growth.{Grows}

@@ -8,7 +8,8 @@ use lib.Dec.{eqb, leb}
 use lib.ListN.{length, getD}
 use native.Mathlib.Decide.{decLt}
 use native.Mathlib.Omega.{arith}
-use Rattle.text.specs.Forms.{every, between, isNumber, decimal as valueOf, numberOf, in-range, digit-good, number-good}
+use Rattle.text.specs.Forms.{every, between, isNumber, decimal as valueOf, numberOf}
+use Rattle.text.specs.FormLaws.{in-range, digit-good, number-good}
 use Rattle.writing.specs.Written.{digitsOf, decimal}
 use Rattle.rereading.specs.Cuts.{free}
 

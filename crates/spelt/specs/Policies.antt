@@ -5,9 +5,11 @@ use mathlib.Core.List.{List, [], _∷_, map, nil≢cons, head-eq-of-cons-eq, tai
 use mathlib.Core.Path.{_≡_, refl, sym, ap, ap₂, _∙_}
 use native.Mathlib.Omega.{arith}
 use Rattle.tables.specs.declared.Name.{Name}
-use Rattle.tables.specs.Names.{packed, packed-one-to-one}
+use Rattle.tables.specs.Names.{packed}
+use Rattle.tables.specs.NameLaws.{packed-one-to-one}
 use Rattle.text.specs.Forms.{every, isName}
-use Rattle.text.specs.Pieces.{sameBytes, among, repeated, same-equal}
+use Rattle.text.specs.Pieces.{sameBytes, among, repeated}
+use Rattle.text.specs.PieceLaws.{same-equal}
 use Rattle.fields.specs.Fields.{placed}
 use Rattle.writing.specs.Written.{spelled}
 use Rattle.writing.specs.Spelling.{spelled-packed}

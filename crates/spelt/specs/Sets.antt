@@ -1,22 +1,14 @@
 -- A set field by its bytes, and that a set field is read as a set exactly when it is spelt so.
-use Prim.Native.Nat.{ℕ, _≤_}
-use mathlib.Core.Bool.{Bool, true, false, not, cond, _&&_, and-eq-true-iff}
-use mathlib.Core.List.{List, [], _∷_, _++_, map, append-assoc, List·Memᴰ as Listed}
+use Prim.Native.Nat.{ℕ}
+use mathlib.Core.Bool.{false}
+use mathlib.Core.List.{List, List·Memᴰ as Listed}
 use mathlib.Core.Logic.{_↔_}
-use mathlib.Core.Path.{_≡_, refl, sym, ap, ap₂, subst, subst⁻¹, _∙_}
-use borrow.Author.Tests.{not-true}
-use lib.ListN.{length}
+use mathlib.Core.Path.{_≡_}
 use Rattle.roles.specs.declared.RoleSet.{RoleSet}
-use Rattle.roles.specs.Members.{_∈_, Sized, same-members}
-use Rattle.tables.specs.Names.{packed}
-use Rattle.text.specs.Forms.{bytes, every, isName, isSet, namesOf}
-use Rattle.text.specs.Pieces.{split, sameBytes, repeated, same-equal, split-piece}
-use Rattle.fields.specs.Fields.{allDeclared, rolesOf}
-use Rattle.spelling.specs.TypingText.{joinedAfter, joined}
-use Rattle.fields.specs.Roles.{roles-sized}
-use Rattle.rereading.specs.Joined.{names-back}
-use Rattle.spelt.specs.Names.{Names, RoleOf, listed-passes, every-exact, all-declared-exact, roles-exact}
-use Rattle.spelt.specs.Lines.{parted, fields-parted}
+use Rattle.roles.specs.Members.{_∈_, Sized}
+use Rattle.text.specs.Pieces.{repeated}
+use Rattle.spelling.specs.TypingText.{joined}
+use Rattle.spelt.specs.Names.{RoleOf}
 
 -- A set of roles as a field: names joined by commas, in any order and none twice, `-` where there is none; each is a role's name,
 -- and the set, in words of 64 bits, has the roles of these names and no other.
@@ -27,65 +19,3 @@ pub record SetSpelt (names : List (List ℕ)) (field : List ℕ) (set : RoleSet)
   pub declared : (name : List ℕ) → Listed name written → Listed name names
   pub roles : (role : ℕ) → role ∈ set ↔ RoleOf names written role
   pub sized : Sized set
-
--- ---- a field is its names joined
-
-joined-parted : (name : List ℕ) (more : List (List ℕ)) → joinedAfter name more ≡ parted 44 (name ∷ more)
-unfolding joinedAfter parted
-joined-parted name [] = refl
-joined-parted name (next ∷ more) = append-assoc name (bytes ",") (joinedAfter next more) ∙ ap (λ (l : List ℕ). name ++ (44 ∷ l)) (joined-parted next more)
-
-names-joined : (field : List ℕ) → field ≡ joined (namesOf field)
-unfolding namesOf joined
-names-joined field = go (sameBytes field (bytes "-")) refl (split-piece 44 field)
-  where
-    go : (b : Bool) → sameBytes field (bytes "-") ≡ b → (name : List ℕ) × (more : List (List ℕ)) × (split 44 field ≡ name ∷ more) → field ≡ joined (cond b [] (split 44 field))
-    go true same some = same-equal field (bytes "-") same
-    go false same (name, more, pieces) = fields-parted 44 field ∙ ap (parted 44) pieces ∙ sym (joined-parted name more) ∙ ap joined (sym pieces)
-
-module _ {names : List (List ℕ)} (all : Names names) (few : length names ≤ 128) {field : List ℕ} where
-  -- ---- what is read is spelt so
-
-  pub set-read : isSet field ≡ true → allDeclared (map packed names) field ≡ true → SetSpelt names field (rolesOf (map packed names) field)
-  unfolding isSet
-  set-read form known =
-      let parts = and-eq-true-iff (every isName (namesOf field)) (not (repeated (namesOf field))) .0 form in
-      record {
-        written = namesOf field;
-        joining = names-joined field;
-        single = not-true (repeated (namesOf field)) (parts .1);
-        declared = all-declared-exact all field (parts .0) .0 known;
-        roles = roles-exact all field (parts .0) few known;
-        sized = roles-sized (map packed names) field;
-      }
-
-  -- ---- what is spelt so is read
-
-  module _ {set : RoleSet} (spelt : SetSpelt names field set) where
-    -- The names that are written are names,
-    pub written-forms : every isName (spelt .written) ≡ true
-    written-forms = every-exact isName (spelt .written) .1 (λ name m. listed-passes isName (all .forms) (spelt .declared name m))
-
-    -- and the names of the field.
-    pub written-names : namesOf field ≡ spelt .written
-    written-names = ap namesOf (spelt .joining) ∙ names-back (spelt .written) written-forms
-
-    names-forms : every isName (namesOf field) ≡ true
-    names-forms = ap (every isName) written-names ∙ written-forms
-
-    -- The field is a set,
-    pub set-form : isSet field ≡ true
-    unfolding isSet
-    set-form = ap₂ (λ (a b : Bool). a && not b) names-forms (ap repeated written-names ∙ spelt .single)
-
-    -- all its names are declared,
-    pub set-declared : allDeclared (map packed names) field ≡ true
-    set-declared = all-declared-exact all field names-forms .1 (λ name m. spelt .declared name (subst (Listed name) written-names m))
-
-    -- and its roles are the set.
-    pub set-is : rolesOf (map packed names) field ≡ set
-    set-is =
-        let exact = roles-exact all field names-forms few set-declared in
-        same-members (roles-sized (map packed names) field) (spelt .sized)
-        (record { every = λ {role} found. spelt .roles role .1 (subst (λ (l : List (List ℕ)). RoleOf names l role) written-names (exact role .0 found)) })
-        (record { every = λ {role} found. exact role .1 (subst⁻¹ (λ (l : List (List ℕ)). RoleOf names l role) written-names (spelt .roles role .0 found)) })

@@ -15,7 +15,8 @@ use Rattle.traces.specs.TraceText.{Traced, untraced, begun, stepped, judgeLine,
 use Rattle.rereading.specs.Cuts.{free}
 use Rattle.spelt.specs.Names.{Names}
 use Rattle.spelt.specs.Policies.{users-packed}
-use Rattle.spelt.specs.Lines.{ended, Lead, last, onward, InLines, lead-opened, lines-exact}
+use Rattle.spelt.specs.Lines.{ended}
+use Rattle.spelt.specs.LinesExact.{Lead, last, onward, InLines, lead-opened, lines-exact}
 use Rattle.spelt.specs.Trace.{StepsSpelt, none, TraceSpelt}
 use Rattle.spelt.specs.Trace as trace
 use Rattle.spelt.specs.TraceLines.{Adds, first, another, goes-adds, adds-goes, spelt-clear, end-exact}

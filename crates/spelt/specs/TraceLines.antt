@@ -9,14 +9,16 @@ use lib.Dec.{leb, eqb}
 use native.Mathlib.Omega.{arith}
 use Rattle.tables.specs.Names.{packed}
 use Rattle.text.specs.Forms.{bytes, every, isName, numberOf}
-use Rattle.text.specs.Pieces.{split, onto, sameBytes, same-equal, equal-same}
+use Rattle.text.specs.Pieces.{split, onto, sameBytes}
+use Rattle.text.specs.PieceLaws.{same-equal, equal-same}
 use Rattle.fields.specs.Fields.{placed, isDeclared}
 use Rattle.walking.specs.Texts.{Judged, goes, ends, bad}
-use Rattle.walking.specs.Turns.{inTurn, turn-cases}
+use Rattle.walking.specs.Turns.{inTurn}
+use Rattle.walking.specs.TurnLaws.{turn-cases}
 use Rattle.walking.specs.Evidence.{tests}
 use Rattle.writing.specs.Written.{decimal}
 use Rattle.steps.specs.declared.Step.{Step}
-use Rattle.steps.specs.Places.{at-listed}
+use Rattle.steps.specs.PlaceLaws.{at-listed}
 use Rattle.traces.specs.declared.TraceLine.{TraceLine}
 use Rattle.traces.specs.TraceLines.{Line, fourFields, lineOf, isStep, stepNamed, stepFormed, stepKnown, stepSaid, judged, traceLine}
 use Rattle.traces.specs.TraceLines as line
@@ -24,8 +26,10 @@ use Rattle.traces.specs.TraceText.{Traced, begun, stepped, headerLine, answered
 use Rattle.rereading.specs.Cuts.{free, free-name}
 use Rattle.rereading.specs.Joined.{Apart}
 use Rattle.rereading.specs.Rows.{tab, newline}
-use Rattle.spelt.specs.Names.{Names, listed-passes, placed-exact, declared-at, declared-exact}
-use Rattle.spelt.specs.Lines.{parted, fields-parted, parted-fields, parted-free}
+use Rattle.spelt.specs.Names.{Names}
+use Rattle.spelt.specs.NamesExact.{listed-passes, placed-exact, declared-at, declared-exact}
+use Rattle.spelt.specs.Lines.{parted}
+use Rattle.spelt.specs.LinesExact.{fields-parted, parted-fields, parted-free}
 use Rattle.spelt.specs.Numbers.{Digits, number-digits, digits-number, digits-free}
 use Rattle.spelt.specs.Trace.{StepLine, StepSpelt, assign, revoke}
 

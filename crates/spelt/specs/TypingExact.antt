@@ -13,12 +13,14 @@ use Rattle.text.specs.Forms.{bytes, every, isName}
 use Rattle.walking.specs.Texts.{goes, read}
 use Rattle.reading.specs.Policy.{Said, readPolicy}
 use Rattle.reading.specs.Sound.{read-sound}
-use Rattle.steps.specs.Places.{At, here, there, at-inside}
+use Rattle.steps.specs.Places.{At, here, there}
+use Rattle.steps.specs.PlaceLaws.{at-inside}
 use Rattle.typings.specs.TypingText.{Typed, untyped, headed, rowed, judgeLine, readTyping}
 use Rattle.rereading.specs.Cuts.{free}
 use Rattle.spelt.specs.Names.{Names}
 use Rattle.spelt.specs.Policies.{roles-packed}
-use Rattle.spelt.specs.Lines.{ended, Lead, last, onward, InLines, lead-opened, lines-exact}
+use Rattle.spelt.specs.Lines.{ended}
+use Rattle.spelt.specs.LinesExact.{Lead, last, onward, InLines, lead-opened, lines-exact}
 use Rattle.spelt.specs.Typing.{Row, Rows, none, row, TypingSpelt}
 use Rattle.spelt.specs.TypingLines.{Adds, first, another, goes-adds, ends-end, adds-goes, end-ends, row-clear}
 

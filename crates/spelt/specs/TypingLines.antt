@@ -13,11 +13,14 @@ use Rattle.roles.specs.declared.RoleSet.{RoleSet}
 use Rattle.tables.specs.declared.Name.{Name}
 use Rattle.tables.specs.Names.{packed}
 use Rattle.text.specs.Forms.{bytes, every, isName, isLabel, isSet}
-use Rattle.text.specs.Pieces.{split, onto, sameBytes, same-equal}
+use Rattle.text.specs.Pieces.{split, onto, sameBytes}
+use Rattle.text.specs.PieceLaws.{same-equal}
 use Rattle.fields.specs.Fields.{placed, allDeclared, rolesOf}
 use Rattle.walking.specs.Texts.{Judged, goes, ends, bad}
-use Rattle.walking.specs.Turns.{inTurn, turn-cases}
-use Rattle.steps.specs.Places.{At, at-listed}
+use Rattle.walking.specs.Turns.{inTurn}
+use Rattle.walking.specs.TurnLaws.{turn-cases}
+use Rattle.steps.specs.Places.{At}
+use Rattle.steps.specs.PlaceLaws.{at-listed}
 use Rattle.spelling.specs.TypingText.{labelText}
 use Rattle.typings.specs.declared.TypingLine.{TypingLine}
 use Rattle.typings.specs.TypingLines.{Line, header, row, end, other, oneField, twoFields, lineOf, wellFormed, named, entry, judged, typingLine}
@@ -25,9 +28,12 @@ use Rattle.typings.specs.TypingText.{Typed, headed, rowed, added, answered, jud
 use Rattle.rereading.specs.Cuts.{free, free-name}
 use Rattle.rereading.specs.Joined.{Apart, free-joined}
 use Rattle.rereading.specs.Rows.{tab, newline, label-name, label-form, label-back, header-good, end-good}
-use Rattle.spelt.specs.Names.{Names, listed-passes, placed-exact}
-use Rattle.spelt.specs.Lines.{parted, fields-parted, parted-fields, parted-free}
-use Rattle.spelt.specs.Sets.{SetSpelt, set-read, written-forms, set-form, set-declared, set-is}
+use Rattle.spelt.specs.Names.{Names}
+use Rattle.spelt.specs.NamesExact.{listed-passes, placed-exact}
+use Rattle.spelt.specs.Lines.{parted}
+use Rattle.spelt.specs.LinesExact.{fields-parted, parted-fields, parted-free}
+use Rattle.spelt.specs.Sets.{SetSpelt}
+use Rattle.spelt.specs.SetsExact.{set-read, written-forms, set-form, set-declared, set-is}
 use Rattle.spelt.specs.Typing.{Row}
 
 -- ---- a line by its fields

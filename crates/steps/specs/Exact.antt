@@ -9,7 +9,8 @@ use lib.Dec.{ltb}
 use lib.ListN.{length}
 use Rattle.roles.specs.declared.RoleSet.{RoleSet}
 use Rattle.roles.specs.Sets.{hasRole, sharesRole, includes}
-use Rattle.roles.specs.Members.{Sized, empty-sized}
+use Rattle.roles.specs.Members.{Sized}
+use Rattle.roles.specs.MemberLaws.{empty-sized}
 use Rattle.roles.specs.Joined.{both-exact, not-exact, share-exact, within-exact}
 use Rattle.model.specs.declared.Assign.{Assign}
 use Rattle.model.specs.Policy.{Policy, noAssign, State, person, Present, Holds, HoldsAll, HoldsNone, CanAssign, CanRevoke}

@@ -3,7 +3,9 @@ pub mod First
 pub mod Tests
 pub mod Traces
 pub mod Places
+pub mod PlaceLaws
 pub mod Runs
 pub mod Exact
 pub mod Bad
+pub mod BadLaws
 pub mod Arrays

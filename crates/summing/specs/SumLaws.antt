@@ -6,7 +6,7 @@ use mathlib.Core.Path.{_≡_, refl, sym, ap, ap₂, _∙_}
 use lib.ListN.{length, getD, replicate}
 use native.Mathlib.Omega.{arith}
 use Rattle.roles.specs.Sets.{emptySet, unionOf}
-use Rattle.roles.specs.Members.{union-self}
+use Rattle.roles.specs.MemberLaws.{union-self}
 use Rattle.model.specs.declared.Typing.{Typing as Table}
 use Rattle.model.specs.Typing.{sum}
 use Rattle.model.specs.Meaning.{meaning}
@@ -75,15 +75,6 @@ sum-meaning {t} {u} one two = λ i. record {
 }
 
 -- ---- the sum of what two typing texts say
-
--- The sum of two typings row by row; the lines are those of the first.
-unfoldable pub sumTyped : Typed → Typed → Typed
-sumTyped t u = record {
-  stage = t .stage;
-  labels = paired _||_ (t .labels) (u .labels);
-  plus = paired unionOf (t .plus) (u .plus);
-  minus = paired unionOf (t .minus) (u .minus);
-}
 
 -- Both have as many rows.
 pub record Even (t u : Typed) : Type 0 where

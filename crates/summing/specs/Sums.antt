@@ -17,3 +17,12 @@ sumOf t u = record {
   plus = paired unionOf (t .plus) (u .plus);
   minus = paired unionOf (t .minus) (u .minus);
 }
+
+-- The sum of two typings row by row; the lines are those of the first.
+unfoldable pub sumTyped : Typed → Typed → Typed
+sumTyped t u = record {
+  stage = t .stage;
+  labels = paired _||_ (t .labels) (u .labels);
+  plus = paired unionOf (t .plus) (u .plus);
+  minus = paired unionOf (t .minus) (u .minus);
+}

@@ -7,7 +7,8 @@ use lib.Seq.{set-append-left}
 use native.Mathlib.Nat.{add-zero, zero-add, suc-add}
 use native.Mathlib.Omega.{arith}
 use Rattle.tables.specs.declared.Name.{Name}
-use Rattle.tables.specs.Names.{wordsOf, rows, rows-laid, stored}
+use Rattle.tables.specs.Names.{wordsOf, rows, stored}
+use Rattle.tables.specs.NameLaws.{rows-laid}
 use Rattle.tables.specs.Padded.{padded}
 
 -- a store behind a list

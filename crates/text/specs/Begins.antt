@@ -6,7 +6,8 @@ use mathlib.Core.Path.{_≡_, refl, sym, ap, ap₂, _∙_}
 use borrow.Author.Tests.{eq-eqb}
 use lib.ListN.{length, take, drop, length-take, take-append-drop}
 use native.Mathlib.Omega.{arith}
-use Rattle.text.specs.Pieces.{sameBytes, same-equal}
+use Rattle.text.specs.Pieces.{sameBytes}
+use Rattle.text.specs.PieceLaws.{same-equal}
 
 -- The byte string begins with these bytes.
 unfoldable pub begins : (start s : List ℕ) → Bool

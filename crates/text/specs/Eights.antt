@@ -9,7 +9,8 @@ use lib.ListN.{length, getD, take, drop, length-drop, take-append-drop}
 use lib.Seq.{drop-cons, drop-drop, take-all}
 use native.Mathlib.Omega.{arith}
 use Rattle.bytes.specs.Bytes.{indexOf, indexAfter}
-use Rattle.text.specs.Forms.{every, every-more, every-take, every-drop}
+use Rattle.text.specs.Forms.{every}
+use Rattle.text.specs.FormLaws.{every-more, every-take, every-drop}
 use Rattle.text.specs.Pieces.{Sought}
 
 -- a byte that is not the mark

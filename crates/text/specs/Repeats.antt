@@ -3,7 +3,8 @@ use Prim.Native.Nat.{ℕ}
 use mathlib.Core.Bool.{Bool, true, false, _||_, or-true, false≢true}
 use mathlib.Core.List.{List, [], _∷_, _++_, append-nil}
 use mathlib.Core.Path.{_≡_, refl, sym, ap, ap₂, _∙_, subst}
-use Rattle.text.specs.Pieces.{sameBytes, among, repeated, same-equal, equal-same}
+use Rattle.text.specs.Pieces.{sameBytes, among, repeated}
+use Rattle.text.specs.PieceLaws.{same-equal, equal-same}
 
 -- which of two byte strings is named first does not matter
 pub same-turned : (s t : List ℕ) → sameBytes s t ≡ sameBytes t s

@@ -2,4 +2,5 @@
 pub mod TraceLines
 pub mod TraceText
 pub mod TraceWalk
-pub mod Exact
+pub mod TraceRefusals
+pub mod TraceRefusalExact

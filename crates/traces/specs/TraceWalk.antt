@@ -7,10 +7,12 @@ use lib.ListN.{length, drop}
 use native.Mathlib.Omega.{arith}
 use Rattle.tables.specs.declared.Name.{Name}
 use Rattle.text.specs.Forms.{bytes}
-use Rattle.text.specs.Pieces.{split, onto, part, sameBytes, same-answer, Sought}
+use Rattle.text.specs.Pieces.{split, onto, part, sameBytes, Sought}
+use Rattle.text.specs.PieceLaws.{same-answer}
 use Rattle.text.specs.Begins.{begins, begins-whole}
 use Rattle.steps.specs.declared.Step.{Step}
-use Rattle.walking.specs.Texts.{ends, bad, read, refused, readLines, text-fits, text-long, lines-next, onward-goes}
+use Rattle.walking.specs.Texts.{ends, bad, read, refused, readLines}
+use Rattle.walking.specs.TextLaws.{text-fits, text-long, lines-next, onward-goes}
 use Rattle.walking.specs.FirstLine.{not-begun}
 use Rattle.walking.specs.Walk.{On, on-end, on-tail, on-bad, on-goes, on-last, on-more}
 use Rattle.traces.specs.declared.TraceLine.{TraceLine}

@@ -9,7 +9,8 @@ use lib.ListN.{length, take, drop, length-append, take-append-drop}
 use native.Mathlib.Omega.{arith}
 use Rattle.bytes.specs.Bytes.{indexOf, indexAfter}
 use Rattle.text.specs.Forms.{bytes}
-use Rattle.text.specs.Pieces.{part, sameBytes, same-equal, equal-same, same-answer}
+use Rattle.text.specs.Pieces.{part, sameBytes}
+use Rattle.text.specs.PieceLaws.{same-equal, equal-same, same-answer}
 use Rattle.typings.specs.Kind.{isTyping}
 
 -- the bytes before the first LF are all of them, or the LF follows them

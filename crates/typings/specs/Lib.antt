@@ -2,7 +2,9 @@
 pub mod Kind
 pub mod FirstLine
 pub mod TypingLines
+pub mod TypingLineLaws
 pub mod TypingText
 pub mod TypingReached
-pub mod Exact
+pub mod TypingRefusals
+pub mod TypingRefusalExact
 pub mod TypingTold

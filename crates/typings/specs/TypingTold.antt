@@ -8,7 +8,8 @@ use Rattle.walking.specs.Texts.{Reading, read, refused}
 use Rattle.typings.specs.declared.TypingRead.{TypingRead}
 use Rattle.typings.specs.TypingText.{Typed, readTyping, tableOf, refusedTyping, answerOf, typingRead}
 use Rattle.walking.specs.Evidence.{EvidenceRefusal}
-use Rattle.typings.specs.Exact.{TypingRefusal, typing-refusal-exact}
+use Rattle.typings.specs.TypingRefusals.{TypingRefusal}
+use Rattle.typings.specs.TypingRefusalExact.{typing-refusal-exact}
 
 -- the text is read, and the record has what it says
 pub record TypingTold (names : List Name) (text : List ℕ) (T : TypingRead) : Type 0 where

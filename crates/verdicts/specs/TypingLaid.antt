@@ -8,19 +8,21 @@ use native.Mathlib.Decide.{decLt}
 use native.Mathlib.Omega.{arith}
 use Rattle.roles.specs.declared.RoleSet.{RoleSet}
 use Rattle.roles.specs.Sets.{emptySet}
-use Rattle.roles.specs.Members.{Sized, empty-sized}
+use Rattle.roles.specs.Members.{Sized}
+use Rattle.roles.specs.MemberLaws.{empty-sized}
 use Rattle.model.specs.Policy.{L}
 use Rattle.model.specs.Meaning.{meaning}
 use Rattle.rules.specs.Exact.{Laid}
 use Rattle.tables.specs.declared.Name.{Name}
 use Rattle.text.specs.Forms.{bytes}
 use Rattle.text.specs.Pieces.{split, sameBytes}
-use Rattle.walking.specs.Texts.{goes, read, goes-one, goes-ends, goes-bad}
+use Rattle.walking.specs.Texts.{goes, read}
+use Rattle.walking.specs.TextLaws.{goes-one, goes-ends, goes-bad}
 use Rattle.fields.specs.Fields.{rolesOf}
 use Rattle.tables.specs.Padded.{padded}
-use Rattle.walking.specs.Turns.{turn-cases}
+use Rattle.walking.specs.TurnLaws.{turn-cases}
 use Rattle.walking.specs.Kept.{text-keeps}
-use Rattle.steps.specs.Places.{stands-at, at-listed}
+use Rattle.steps.specs.PlaceLaws.{stands-at, at-listed}
 use Rattle.typings.specs.declared.TypingLine.{TypingLine}
 use Rattle.typings.specs.TypingLines.{Line, header, row, end, other, lineOf, entry, judged, typingLine}
 use Rattle.typings.specs.TypingText.{Typed, untyped, added, answered, judgeLine, readTyping, tableOf}

@@ -1,13 +1,12 @@
--- When a piece of evidence is refused and when it is read, in document 01's words, for any tests of its lines; and that reading means just this.
+-- When a piece of evidence is refused and when it is read, in document 01's words, for any tests of its lines.
 use Prim.Native.Nat.{ℕ, suc, _≤_, _<_}
-use mathlib.Core.Bool.{Bool, true, false, cond, true≢false}
+use mathlib.Core.Bool.{Bool, true, false}
 use mathlib.Core.List.{List, [], _∷_}
-use mathlib.Core.Logic.{_↔_, inl, inr}
-use mathlib.Core.Path.{_≡_, refl, sym, subst, _∙_}
+use mathlib.Core.Path.{_≡_}
 use lib.ListN.{length}
-use Rattle.walking.specs.Texts.{Judged, goes, ends, bad}
-use Rattle.walking.specs.Turns.{Test, test, inTurn, Fails, turn-good, turn-bad, turn-passes, turn-fails}
-use Rattle.walking.specs.Meaning.{Unbroken, Above, LineAt, ReadAs, Refusal}
+use Rattle.walking.specs.Texts.{Judged}
+use Rattle.walking.specs.Turns.{Test, test}
+use Rattle.walking.specs.Meaning.{Unbroken, Above, LineAt}
 
 -- The tests of a line of evidence in turn: malformed, then names.
 abbrev pub tests : (formed known : Bool) → List Test
@@ -41,53 +40,3 @@ module _ {S : Type 0} (judge : S → List ℕ → Judged S) (formed known last :
     pub line : List ℕ
     pub ending : LineAt judge start text number said line []
     pub is-end : EndLine said line
-
-  -- A good line is the last, or what it says is added.
-  module _ (next : S → List ℕ → S)
-      (tells : (s : S) (line : List ℕ) → judge s line ≡ inTurn bad (tests (formed s line) (known s line)) (cond (last s line) ends (goes (next s line)))) where
-    of-bad : (s : S) (line : List ℕ) {k n : ℕ} {rest : List ℕ} → LineAt judge start text n s line rest → judge s line ≡ bad k → EvidenceRefusal k n
-    of-bad s line {k} {n} at is =
-        go (turn-bad bad (tests (formed s line) (known s line)) (cond (last s line) ends (goes (next s line))) (λ j e. cc) (good (last s line)) (sym (tells s line) ∙ is))
-      where
-        good : (l : Bool) → cond l ends (goes (next s line)) ≡ bad k → ⊥
-        good true e = true≢false (cc)
-        good false e = true≢false (cc)
-
-        go : Fails (tests (formed s line) (known s line)) k → EvidenceRefusal k n
-        go (inl (a, same)) = subst (λ (j : ℕ). EvidenceRefusal j n) same (malformed at a)
-        go (inr (a, inl (b, same))) = subst (λ (j : ℕ). EvidenceRefusal j n) same (misnamed at (record { is-formed = a; is-unknown = b }))
-        go (inr (a, inr (b, none))) = absurd none
-
-    of-end : (s : S) (line : List ℕ) → judge s line ≡ ends → EndLine s line
-    of-end s line is =
-        let (passed, ended) = turn-good bad (tests (formed s line) (known s line)) (cond (last s line) ends (goes (next s line))) ends (λ k e. true≢false (cc)) (sym (tells s line) ∙ is) in
-        record { is-formed = passed .0; is-known = passed .1 .0; is-last = go (last s line) ended }
-      where
-        go : (l : Bool) → cond l ends (goes (next s line)) ≡ ends → l ≡ true
-        go true e = refl
-        go false e = absurd (true≢false (cc))
-
-    is-ending : (s : S) (line : List ℕ) → EndLine s line → judge s line ≡ ends
-    is-ending s line e = tells s line ∙ turn-passes bad _ _ (e .is-formed, (e .is-known, tt)) ∙ rw (e .is-last)
-
-    pub refusal-means : {k n : ℕ} → Refusal judge 15 14 start text k n ↔ EvidenceRefusal k n
-    refusal-means = (go, back)
-      where
-        go : {k n : ℕ} → Refusal judge 15 14 start text k n → EvidenceRefusal k n
-        go (Refusal.too-long above) = too-long above
-        go (Refusal.bad-line {k} {n} {s} {line} at is) = of-bad s line at is
-        go (Refusal.no-end fits above tail) = no-end fits above tail
-        go (Refusal.after-end {n} {s} {line} at is) = after-end at (of-end s line is)
-
-        back : {k n : ℕ} → EvidenceRefusal k n → Refusal judge 15 14 start text k n
-        back (EvidenceRefusal.too-long above) = Refusal.too-long above
-        back (EvidenceRefusal.malformed {n} {s} {line} at a) = Refusal.bad-line at (tells s line ∙ turn-fails bad _ _ (inl (a, refl)))
-        back (EvidenceRefusal.misnamed {n} {s} {line} at m) = Refusal.bad-line at (tells s line ∙ turn-fails bad _ _ (inr (m .is-formed, inl (m .is-unknown, refl))))
-        back (EvidenceRefusal.no-end fits above tail) = Refusal.no-end fits above tail
-        back (EvidenceRefusal.after-end {n} {s} {line} at e) = Refusal.after-end at (is-ending s line e)
-
-    pub reading-means : {said : S} → ReadAs judge start text said ↔ EvidenceReadAs said
-    reading-means {said} = (
-      λ r. record { number = r .number; line = r .line; ending = r .last; is-end = of-end said (r .line) (r .is-end) },
-      λ r. record { number = r .number; line = r .line; last = r .ending; is-end = is-ending said (r .line) (r .is-end) },
-    )

@@ -6,9 +6,11 @@ use mathlib.Core.Path.{_≡_, refl, sym, ap, ap₂, _∙_}
 use borrow.Author.Tests.{eqb-true}
 use lib.Dec.{eqb}
 use lib.ListN.{length}
-use Rattle.text.specs.Pieces.{split, onto, split-piece}
+use Rattle.text.specs.Pieces.{split, onto}
+use Rattle.text.specs.PieceLaws.{split-piece}
 use Rattle.text.specs.Begins.{begins, begins-onward}
-use Rattle.walking.specs.Texts.{Judged, bad, refused, onward, readLines, readText, text-fits}
+use Rattle.walking.specs.Texts.{Judged, bad, refused, onward, readLines, readText}
+use Rattle.walking.specs.TextLaws.{text-fits}
 
 -- the first of several pieces, then the separator and the bytes of the others
 pub first-piece : (mark : ℕ) (s : List ℕ) {a b : List ℕ} {more : List (List ℕ)} → split mark s ≡ a ∷ b ∷ more → (rest : List ℕ) × (s ≡ a ++ (mark ∷ rest)) × (split mark rest ≡ b ∷ more)

@@ -5,8 +5,10 @@ use mathlib.Core.Path.{_≡_, refl, sym, ap, _∙_}
 use lib.ListN.{length, drop, length-drop, drop-of-length-le}
 use native.Mathlib.Numerals.{add-one}
 use native.Mathlib.Omega.{arith}
-use Rattle.text.specs.Pieces.{split, part, Sought, sought-some, sought-last}
-use Rattle.walking.specs.Texts.{Judged, goes, ends, bad, read, refused, readText, readLines, onward, closing, lines-end, lines-next, onward-goes, onward-bad, onward-ends, closing-none, closing-some, text-fits}
+use Rattle.text.specs.Pieces.{split, part, Sought}
+use Rattle.text.specs.PieceLaws.{sought-some, sought-last}
+use Rattle.walking.specs.Texts.{Judged, goes, ends, bad, read, refused, readText, readLines, onward, closing}
+use Rattle.walking.specs.TextLaws.{lines-end, lines-next, onward-goes, onward-bad, onward-ends, closing-none, closing-some, text-fits}
 
 module _ {S : Type 0} (judge : S → List ℕ → Judged S) (malformed long : ℕ) (start : S) where
   -- before the line of this number, with s read of the lines above

@@ -10,13 +10,12 @@ use Rattle.closing.specs.Rounds.{roundOf, samePair, roundsOf, closeOf}
 use Rattle.rules.specs.Tests.{implies, inconsistentRole, personPasses, holdsHigh, unopposedTarget, unneededTarget, targetSuits, assignPasses, revokePasses, goalPasses}
 use Rattle.model.specs.Meaning.{meaning}
 use Rattle.bytes.specs.Bytes.{indexOf}
-use Rattle.model.specs.Policy.{withoutRole, revoked}
+use Rattle.model.specs.Policy.{revoked}
 use Rattle.text.specs.Forms.{bytes, isNumber, decimal, numberOf}
 use Rattle.tables.specs.Names.{sameName}
 use Rattle.reading.specs.Policy.{policyOf}
 use Rattle.tables.specs.Padded.{padded}
 use Rattle.worked.specs.Policies.{reading}
-use Rattle.walking.specs.Turns.{inTurn}
 use Rattle.typings.specs.TypingLines as typing
 use Rattle.typings.specs.TypingText as typings
 use Rattle.traces.specs.TraceLines as trace

@@ -6,7 +6,7 @@ use lib.ListN.{length, getD, set, take, drop, length-append, length-drop, drop-o
 use lib.Seq.{take-append-seam, drop-append-seam, drop-drop, set-split, take-suc, take-length}
 use native.Mathlib.Numerals.{add-one}
 use native.Mathlib.Omega.{arith}
-use Rattle.text.specs.Pieces.{part-rest}
+use Rattle.text.specs.PieceLaws.{part-rest}
 use Rattle.writing.specs.Written.{put}
 
 -- ---- bytes put at the start

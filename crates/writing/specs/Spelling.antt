@@ -13,7 +13,8 @@ use native.Mathlib.Numerals.{sub-one}
 use native.Mathlib.Omega.{arith}
 use Rattle.io.specs.Digits.{glyph, digits, Fewest}
 use Rattle.tables.specs.declared.Name.{Name}
-use Rattle.text.specs.Forms.{every, nameByte, isName, name-byte-range, every-take, every-drop}
+use Rattle.text.specs.Forms.{every, nameByte, isName}
+use Rattle.text.specs.FormLaws.{name-byte-range, every-take, every-drop}
 use Rattle.tables.specs.Names.{value, packed}
 use Rattle.writing.specs.Written.{letters, spelled, digitsOf, decimal}
 

@@ -3,7 +3,7 @@ use borrow.Author.Tests.{not-true}
 use mathlib.Core.Path.{sym, _∙_}
 use Rattle.reading.specs.Header.{headless}
 use Rattle.reading.specs.Policy.{nothing, judgeLine, readPolicy}
-use Rattle.walking.specs.Texts.{text-long}
+use Rattle.walking.specs.TextLaws.{text-long}
 use Rattle.answering.specs.Laws.{policy-refused}
 use borrow.Author.Needs.{needs}
 use Rattle.answering.proofs.named_answer.Statement.{statement}

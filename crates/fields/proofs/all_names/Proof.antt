@@ -6,7 +6,8 @@ use lib.ListN.{length, drop}
 use mathlib.Core.Path.{_≡_, refl, sym, _∙_}
 use Rattle.fields.specs.Sets.{first-fails, first-holds}
 use Rattle.text.specs.Forms.{every, isName}
-use Rattle.text.specs.Pieces.{split, sought-cut, sought-some, sought-last}
+use Rattle.text.specs.Pieces.{split}
+use Rattle.text.specs.PieceLaws.{sought-cut, sought-some, sought-last}
 use Rattle.fields.proofs.all_names.Statement.{statement}
 use Rattle.fields.proofs.all_names.Tie as tie
 

@@ -6,7 +6,7 @@ use mathlib.Core.Path.{sym, ap, _∙_}
 use native.Mathlib.Omega.{arith}
 use Rattle.lines.specs.Lines.{judged, policyLine}
 use Rattle.lines.specs.LineLaws.{other-judged, line-one, line-two, line-three, line-four, line-five, line-five-other, line-more}
-use Rattle.text.specs.Pieces.{passed-none, passed-next, passed-last, part-short}
+use Rattle.text.specs.PieceLaws.{passed-none, passed-next, passed-last, part-short}
 use Rattle.lines.proofs.read_line.Statement.{statement}
 use Rattle.lines.proofs.read_line.Tie as tie
 

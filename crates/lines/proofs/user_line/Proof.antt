@@ -1,6 +1,7 @@
 -- `user_line` is judged by the order, the name, the clearance and the place in the table.
 use borrow.Author.Needs.{needs}
-use Rattle.fields.specs.Fields.{placed, new-test}
+use Rattle.fields.specs.Fields.{placed}
+use Rattle.fields.specs.FieldLaws.{new-test}
 use Rattle.lines.specs.Lines.{asked, judged}
 use Rattle.lines.proofs.user_line.Statement.{statement}
 use Rattle.lines.proofs.user_line.Tie as tie

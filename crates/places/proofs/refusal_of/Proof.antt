@@ -1,7 +1,8 @@
 -- `refusal_of` is the refusal of the answer, which is that of the readers.
 use borrow.Author.Needs.{needs}
 use mathlib.Core.Path.{sym, ap, _∙_}
-use Rattle.places.specs.Answered.{refusalIn, refused-place}
+use Rattle.places.specs.Answered.{refusalIn}
+use Rattle.places.specs.AnsweredLaws.{refused-place}
 use Rattle.places.proofs.refusal_of.Statement.{statement}
 use Rattle.places.proofs.refusal_of.Tie as tie
 

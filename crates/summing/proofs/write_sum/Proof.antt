@@ -1,6 +1,6 @@
 -- `write_sum` answers by the length that is written, which is 0 where the text does not fit.
 use mathlib.Core.Path.{sym, ap, _∙_}
-use Rattle.tables.specs.Names.{rows-length}
+use Rattle.tables.specs.NameLaws.{rows-length}
 use Rattle.judging.specs.Verdict.{pinnedNames}
 use Rattle.summing.specs.SumOutcomes.{sum-unwritten, sum-written}
 use borrow.Author.Needs.{needs}

@@ -1,7 +1,7 @@
 -- `eight` joins the eight bytes.
 use borrow.Author.Needs.{needs}
 use mathlib.Core.Path.{_∙_}
-use Rattle.tables.specs.Names.{value-eight}
+use Rattle.tables.specs.NameLaws.{value-eight}
 use Rattle.tables.proofs.eight.Statement.{statement}
 use Rattle.tables.proofs.eight.Tie as tie
 

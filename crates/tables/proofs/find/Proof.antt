@@ -4,7 +4,8 @@ use borrow.Author.Needs.{needs}
 use lib.ListN.{drop}
 use mathlib.Core.Path.{_≡_}
 use native.Mathlib.Nat.{sub-zero, zero-add}
-use Rattle.tables.specs.Names.{placeOf, rows, place-found, place-passed, place-none}
+use Rattle.tables.specs.Names.{placeOf, rows}
+use Rattle.tables.specs.NameLaws.{place-found, place-passed, place-none}
 use Rattle.tables.specs.Names.{placeOf, rows}
 use Rattle.tables.proofs.find.Statement.{statement}
 use Rattle.tables.proofs.find.Tie as tie

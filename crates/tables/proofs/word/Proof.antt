@@ -10,8 +10,10 @@ use native.Mathlib.Nat.{le-refl}
 use native.Mathlib.Nat.{one-le-pow, le-refl}
 use native.Mathlib.Nat.{one-le-pow}
 use native.Mathlib.Omega.{arith}
-use Rattle.tables.specs.Names.{value, value-end, word-bound, word-fits, word-next}
-use Rattle.tables.specs.Names.{value, value-end, word-next, word-fits}
+use Rattle.tables.specs.Names.{value}
+use Rattle.tables.specs.NameLaws.{value-end, word-bound, word-fits, word-next}
+use Rattle.tables.specs.Names.{value}
+use Rattle.tables.specs.NameLaws.{value-end, word-next, word-fits}
 use Rattle.tables.proofs.word.Statement.{statement}
 use Rattle.tables.proofs.word.Tie as tie
 

@@ -5,8 +5,9 @@ use lib.ListN.{length, drop, drop-of-length-le, length-drop}
 use lib.Seq.{take-all}
 use mathlib.Core.Path.{sym, _∙_, ap}
 use native.Mathlib.Omega.{arith}
-use Rattle.tables.specs.Names.{value, value-last}
-use Rattle.text.specs.Pieces.{part-rest}
+use Rattle.tables.specs.Names.{value}
+use Rattle.tables.specs.NameLaws.{value-last}
+use Rattle.text.specs.PieceLaws.{part-rest}
 use Rattle.tables.proofs.word_at.Statement.{statement}
 use Rattle.tables.proofs.word_at.Tie as tie
 

@@ -4,7 +4,8 @@ use borrow.Author.Needs.{needs}
 use borrow.Author.Tests.{not-true, not-false}
 use lib.ListN.{length, drop}
 use mathlib.Core.Path.{_≡_, refl, sym, _∙_}
-use Rattle.text.specs.Forms.{every, nameByte, every-bad, every-good, every-end}
+use Rattle.text.specs.Forms.{every, nameByte}
+use Rattle.text.specs.FormLaws.{every-bad, every-good, every-end}
 use Rattle.text.proofs.few_in_name.Statement.{statement}
 use Rattle.text.proofs.few_in_name.Tie as tie
 

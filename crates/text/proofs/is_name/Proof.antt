@@ -5,7 +5,8 @@ use borrow.Author.Tests.{not-true, not-false}
 use lib.ListN.{length, drop}
 use mathlib.Core.Path.{_≡_, refl, sym, _∙_}
 use Rattle.text.specs.Eights.{eight-bad, eight-good, eight-last}
-use Rattle.text.specs.Forms.{every, nameByte, name-short, name-long, name-fits}
+use Rattle.text.specs.Forms.{every, nameByte}
+use Rattle.text.specs.FormLaws.{name-short, name-long, name-fits}
 use Rattle.text.proofs.is_name.Statement.{statement}
 use Rattle.text.proofs.is_name.Tie as tie
 

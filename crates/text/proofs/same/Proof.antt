@@ -1,6 +1,6 @@
 -- `same` answers the test of two byte strings, whichever way they compare.
 use borrow.Author.Needs.{needs}
-use Rattle.text.specs.Pieces.{same-answer}
+use Rattle.text.specs.PieceLaws.{same-answer}
 use Rattle.text.proofs.same.Statement.{statement}
 use Rattle.text.proofs.same.Tie as tie
 

@@ -3,7 +3,8 @@ use borrow.Author.Needs.{needs}
 use mathlib.Core.Path.{ap, _∙_}
 use Rattle.traces.specs.TraceLines.{step-judged}
 use Rattle.fields.specs.Fields.{placed}
-use Rattle.tables.specs.Names.{placeOf, rows, rows-length}
+use Rattle.tables.specs.Names.{placeOf, rows}
+use Rattle.tables.specs.NameLaws.{rows-length}
 use Rattle.traces.proofs.step_line.Statement.{statement}
 use Rattle.traces.proofs.step_line.Tie as tie
 

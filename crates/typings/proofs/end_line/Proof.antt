@@ -1,6 +1,6 @@
 -- `end_line` is judged by its word and its place.
 use borrow.Author.Needs.{needs}
-use Rattle.typings.specs.TypingLines.{end-judged}
+use Rattle.typings.specs.TypingLineLaws.{end-judged}
 use Rattle.typings.proofs.end_line.Statement.{statement}
 use Rattle.typings.proofs.end_line.Tie as tie
 

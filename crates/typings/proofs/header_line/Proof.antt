@@ -1,6 +1,6 @@
 -- `header_line` is judged by its word, its place and the edition.
 use borrow.Author.Needs.{needs}
-use Rattle.typings.specs.TypingLines.{header-judged}
+use Rattle.typings.specs.TypingLineLaws.{header-judged}
 use Rattle.typings.proofs.header_line.Statement.{statement}
 use Rattle.typings.proofs.header_line.Tie as tie
 

@@ -3,9 +3,11 @@ use Prim.Native.Nat.{_+_}
 use borrow.Author.Needs.{needs}
 use mathlib.Core.Path.{_∙_}
 use Rattle.fields.specs.Cutting.{one-field, two-fields, three-fields, four-fields, more-fields}
-use Rattle.typings.specs.TypingLines.{lineOf, other-judged, by-fields}
-use Rattle.tables.specs.Names.{rows, rows-length}
-use Rattle.text.specs.Pieces.{part-short}
+use Rattle.typings.specs.TypingLines.{lineOf}
+use Rattle.typings.specs.TypingLineLaws.{other-judged, by-fields}
+use Rattle.tables.specs.Names.{rows}
+use Rattle.tables.specs.NameLaws.{rows-length}
+use Rattle.text.specs.PieceLaws.{part-short}
 use Rattle.typings.proofs.read_line.Statement.{statement}
 use Rattle.typings.proofs.read_line.Tie as tie
 

@@ -7,8 +7,9 @@ use native.Mathlib.Omega.{arith}
 use Rattle.typings.specs.TypingReached.{Reached, reached-start, reached-end, reached-tail, refused-long, row-fits, line-refused, line-header, line-row, line-last, line-more}
 use Rattle.typings.specs.TypingText.{codeOf, refusedTyping}
 use Rattle.typings.specs.declared.TypingLine.{TypingLine}
-use Rattle.tables.specs.Names.{rows, rows-length}
-use Rattle.text.specs.Pieces.{part-short}
+use Rattle.tables.specs.Names.{rows}
+use Rattle.tables.specs.NameLaws.{rows-length}
+use Rattle.text.specs.PieceLaws.{part-short}
 use Rattle.typings.proofs.read_typing.Statement.{statement}
 use Rattle.typings.proofs.read_typing.Tie as tie
 

@@ -2,9 +2,10 @@
 use borrow.Author.Needs.{needs}
 use mathlib.Core.Path.{ap, _∙_}
 use native.Mathlib.Omega.{arith}
-use Rattle.typings.specs.TypingLines.{row-judged}
+use Rattle.typings.specs.TypingLineLaws.{row-judged}
 use Rattle.fields.specs.Fields.{placed}
-use Rattle.tables.specs.Names.{placeOf, rows, rows-length, place-most}
+use Rattle.tables.specs.Names.{placeOf, rows}
+use Rattle.tables.specs.NameLaws.{rows-length, place-most}
 use Rattle.typings.proofs.row_line.Statement.{statement}
 use Rattle.typings.proofs.row_line.Tie as tie
 

@@ -12,7 +12,7 @@ use Rattle.lines.specs.declared.Entry.{Entry}
 use Rattle.lines.specs.declared.PolicyLine.{PolicyLine}
 use Rattle.lines.specs.LineLaws.{Fitting}
 use Rattle.lines.proofs.Entry.{the-type}
-use Rattle.text.specs.Pieces.{part-short}
+use Rattle.text.specs.PieceLaws.{part-short}
 use Rattle.lines.specs.Lines.{codeOf}
 use Rattle.reading.specs.Order.{OfDirectory}
 use Rattle.reading.specs.Between.{fits-here}

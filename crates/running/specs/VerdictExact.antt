@@ -1,4 +1,4 @@
--- The verdict on a trace is exact: each of the four is given exactly when its words in document 01's table hold.
+-- The verdict on a trace is exact: each answer exactly when its rule says so.
 use Prim.Native.Nat.{ℕ, zero, suc, _-_}
 use mathlib.Core.List.{List, List·Memᴰ as Listed}
 use mathlib.Core.Logic.{_↔_}
@@ -7,7 +7,7 @@ use lib.ListN.{length}
 use native.Mathlib.Omega.{arith}
 use Rattle.roles.specs.declared.RoleSet.{RoleSet}
 use Rattle.roles.specs.Members.{Sized}
-use Rattle.model.specs.Policy.{State, Bad}
+use Rattle.model.specs.Policy.{State}
 use Rattle.model.specs.Sized.{SizedPolicy}
 use Rattle.model.specs.Safety.{Attack}
 use Rattle.walking.specs.Texts.{Reading, read, refused}
@@ -16,46 +16,14 @@ use Rattle.steps.specs.declared.Found.{Found}
 use Rattle.steps.specs.declared.Step.{Step}
 use Rattle.steps.specs.Tests.{firstBad}
 use Rattle.steps.specs.Traces.{Ran, broken, ran, runOf}
-use Rattle.steps.specs.Bad.{FirstBad, bad-exact, bad-first, first-only, first-is-bad}
-use Rattle.following.specs.Follows.{Follows, Breaks}
+use Rattle.steps.specs.Bad.{FirstBad}
+use Rattle.steps.specs.BadLaws.{bad-exact, bad-first, first-only, first-is-bad}
 use Rattle.following.specs.Exact.{follows-exact, breaks-exact, follows-run}
 use Rattle.traces.specs.TraceText.{Traced, readTrace}
 use Rattle.running.specs.declared.TraceVerdict.{TraceVerdict}
 use Rattle.running.specs.Ends.{last-short, last-attacked}
 use Rattle.running.specs.Verdict.{ranVerdict, readVerdict, traceVerdict}
-
--- ---- what each verdict says
-
--- The text is read as a trace with these steps, over the users and the numbers of rules that the policy text says.
-pub record ReadsAs (s : Said) (text : List ℕ) (steps : List Step) : Type 0 where
-  pub trace : Traced
-  pub reads : readTrace (length (s .assigns)) (length (s .revokes)) (s .users) text ≡ read trace
-  pub are : trace .steps ≡ steps
-
--- ATTACKED: the text is read as so many steps, they are a run of the policy from the holdings, and in its last state this user, at a place
--- from 0, is the first L user who holds all roles of a goal, and this goal, by its number from 1, that user's lowest.
-pub record Attacked (s : Said) (text : List ℕ) (count user goal : ℕ) : Type 0 where
-  pub steps : List Step
-  pub reads : ReadsAs s text steps
-  pub counted : count ≡ length steps
-  pub last : State
-  pub follows : Follows (policyOf s) (s .holdings) steps last
-  pub first : FirstBad (s .goals) last (record { user = suc user; goal = goal })
-
--- BROKEN: the text is read, and the step with this number is the first that is no step of the policy's run from the holdings.
-pub record Broken (s : Said) (text : List ℕ) (number : ℕ) : Type 0 where
-  pub steps : List Step
-  pub reads : ReadsAs s text steps
-  pub breaks : Breaks (policyOf s) (s .holdings) steps number
-
--- SHORT: the text is read as so many steps, they are a run of the policy from the holdings, and its last state is not bad.
-pub record Short (s : Said) (text : List ℕ) (count : ℕ) : Type 0 where
-  pub steps : List Step
-  pub reads : ReadsAs s text steps
-  pub counted : count ≡ length steps
-  pub last : State
-  pub follows : Follows (policyOf s) (s .holdings) steps last
-  pub safe : Bad (s .goals) last → ⊥
+use Rattle.running.specs.Says.{Attacked, Broken, ReadsAs, Short}
 
 -- ---- the verdict by what the text and its steps give
 
