@@ -44,3 +44,11 @@ pub data Refused (policy evidence : List ℕ) : (number line : ℕ) → Type 0 w
   of-policy : {k n : ℕ} → PolicyRefusal policy k n → Refused policy evidence k n
   of-typing : {k n : ℕ} {s : Said} → readPolicy policy ≡ read s → isTyping evidence ≡ true → TypingRefusal (s .roles) evidence k n → Refused policy evidence k n
   of-trace : {k n : ℕ} {s : Said} → readPolicy policy ≡ read s → isTyping evidence ≡ false → TraceRefusal (length (s .assigns)) (length (s .revokes)) (s .users) evidence k n → Refused policy evidence k n
+
+-- The policy text is read, and the policy that it says has a run from its holdings to a bad state.
+pub record BadRun (policy : List ℕ) : Type 0 where
+  pub said : Said
+  pub reads : readPolicy policy ≡ read said
+  pub last : State
+  pub run : Run (policyOf said) (said .holdings) last
+  pub bad : Bad (policyOf said .goals) last

@@ -26,7 +26,7 @@ use Rattle.judging.specs.declared.TypingVerdict.{TypingVerdict}
 use Rattle.judging.specs.Verdict.{Subject, subjectOf, subjectIn, judgedTyping, pinnedNames}
 use Rattle.running.specs.declared.TraceVerdict.{TraceVerdict}
 use Rattle.running.specs.Verdict.{traceVerdict}
-use Rattle.running.specs.Layout.{arrays, saidIn, verdict-laid}
+use Rattle.running.specs.Layout.{arrays, saidOf, verdict-laid}
 use Rattle.answering.specs.declared.Answer.{Answer}
 use Rattle.answering.specs.declared.NamedAnswer.{NamedAnswer}
 use Rattle.answering.specs.Answers.{judgedAnswer, typingAnswer, traceAnswer, evidenceAnswer, answerAfter, answerOf, usersIn, nameAt}
@@ -125,6 +125,6 @@ module _ (policy evidence : List ℕ) where
         ∙ typing-unnamed (t .said .users) (countsOf (t .said)) (subjectOf (t .said)) (readTyping (t .said .roles) evidence)
         ∙ read-answer kind
 
-    pub over-trace : {v : TraceVerdict} → v ≡ traceVerdict (saidIn (arrays (D .users) (D .persons) R)) evidence → isTyping evidence ≡ false → namedOver (rows (R .counts .users) (D .users)) (traceAnswer v) ≡ namedAnswer policy evidence
+    pub over-trace : {v : TraceVerdict} → v ≡ traceVerdict (saidOf (arrays (D .users) (D .persons) R)) evidence → isTyping evidence ≡ false → namedOver (rows (R .counts .users) (D .users)) (traceAnswer v) ≡ namedAnswer policy evidence
     over-trace verdict kind =
         ap₂ (λ (users : List Name) (v : TraceVerdict). namedOver users (traceAnswer v)) (users-laid (t .laid)) (verdict ∙ verdict-laid (t .laid) evidence) ∙ read-answer kind

@@ -5,6 +5,6 @@ pub mod Laws
 pub mod CheckRules
 pub mod Kinds
 pub mod Outcomes
-pub mod Exact
+pub mod AnswerExact
 pub mod Means
 pub mod Refusals

@@ -2,21 +2,11 @@
 use Prim.Native.Nat.{ℕ}
 use mathlib.Core.List.{List}
 use mathlib.Core.Path.{_≡_}
-use Rattle.model.specs.Policy.{State, Run, Bad}
-use Rattle.walking.specs.Texts.{read}
-use Rattle.reading.specs.Policy.{Said, policyOf, readPolicy}
-use Rattle.running.specs.VerdictExact.{attacked-attack}
+use Rattle.running.specs.TraceVerdictExact.{attacked-attack}
 use Rattle.answering.specs.declared.Answer.{Answer}
 use Rattle.answering.specs.Answers.{answerOf}
-use Rattle.answering.specs.Exact.{attacked-exact}
-
--- The policy text is read, and the policy that it says has a run from its holdings to a bad state.
-pub record BadRun (policy : List ℕ) : Type 0 where
-  pub said : Said
-  pub reads : readPolicy policy ≡ read said
-  pub last : State
-  pub run : Run (policyOf said) (said .holdings) last
-  pub bad : Bad (policyOf said .goals) last
+use Rattle.answering.specs.AnswerExact.{attacked-exact}
+use Rattle.answering.specs.CheckRules.{BadRun}
 
 -- ATTACKED is answered only where there is such a run.
 pub attacked-means : (policy evidence : List ℕ) {n u g : ℕ} → answerOf policy evidence ≡ Answer.Attacked n u g → BadRun policy

@@ -1,12 +1,11 @@
 -- When `check` refuses, with which number and at which line.
 use Prim.Native.Nat.{ℕ, _≤_}
-use mathlib.Core.Bool.{Bool}
+use mathlib.Core.Bool.{Bool, true≢false}
 use mathlib.Core.List.{List}
 use mathlib.Core.Logic.{_↔_}
 use mathlib.Core.Path.{_≡_, ap, subst, _∙_}
 use lib.Dec.{lit≤}
 use lib.ListN.{length}
-use native.Mathlib.Omega.{arith}
 use Rattle.walking.specs.Texts.{Judged}
 use Rattle.reading.specs.Policy.{countsOf}
 use Rattle.reading.specs.PolicyRefusals.{PolicyRefusal}
@@ -19,7 +18,7 @@ use Rattle.judging.specs.declared.TypingVerdict.{TypingVerdict}
 use Rattle.judging.specs.Verdict.{typingVerdict}
 use Rattle.running.specs.declared.TraceVerdict.{TraceVerdict}
 use Rattle.running.specs.Verdict.{traceVerdict}
-use Rattle.running.specs.VerdictExact.{run-refused}
+use Rattle.running.specs.TraceVerdictExact.{run-refused}
 use Rattle.answering.specs.declared.Answer.{Answer}
 use Rattle.answering.specs.Answers.{judgedAnswer, traceAnswer, answerOf}
 use Rattle.answering.specs.CheckRules.{Refused, of-policy, of-typing, of-trace}
@@ -61,16 +60,16 @@ module _ (policy evidence : List ℕ) where
   refused-told {k = k} {n = n} (typed {s = s} {t = t} reads over) is = go (typingVerdict s (tableOf t)) is
     where
       go : (v : TypingVerdict) → judgedAnswer (countsOf s) (tableOf t) v ≡ Answer.Refused k n → Refused policy evidence k n
-      go TypingVerdict.Accepted e = absurd (let z : _≡_ {A = ℕ} 0 1 = cc in omega arith)
-      go (TypingVerdict.Fails part number) e = absurd (let z : _≡_ {A = ℕ} 0 1 = cc in omega arith)
+      go TypingVerdict.Accepted e = absurd (true≢false (cc))
+      go (TypingVerdict.Fails part number) e = absurd (true≢false (cc))
   refused-told {k = k} {n = n} (traced {s = s} reads kind) is =
       of-trace reads kind (trace-refusal-exact (length (s .assigns)) (length (s .revokes)) (s .users) evidence k n .0 (run-refused s evidence k n .0 (go (traceVerdict s evidence) is)))
     where
       go : (v : TraceVerdict) → traceAnswer v ≡ Answer.Refused k n → v ≡ TraceVerdict.Refused k n
       go (TraceVerdict.Refused number line) e = cc
-      go (TraceVerdict.Attacked steps user goal) e = absurd (let z : _≡_ {A = ℕ} 0 1 = cc in omega arith)
-      go (TraceVerdict.Broken step) e = absurd (let z : _≡_ {A = ℕ} 0 1 = cc in omega arith)
-      go (TraceVerdict.Short steps) e = absurd (let z : _≡_ {A = ℕ} 0 1 = cc in omega arith)
+      go (TraceVerdict.Attacked steps user goal) e = absurd (true≢false (cc))
+      go (TraceVerdict.Broken step) e = absurd (true≢false (cc))
+      go (TraceVerdict.Short steps) e = absurd (true≢false (cc))
 
   refused-back : {k n : ℕ} → Refused policy evidence k n → answerOf policy evidence ≡ Answer.Refused k n
   unfolding traceAnswer

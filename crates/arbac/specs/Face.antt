@@ -1,11 +1,16 @@
 -- What a C caller is told: a number, which the function answers, and values at the start of a lent array.
-use Prim.Native.Nat.{ℕ}
+use Prim.Native.Nat.{ℕ, _≤_, _<_}
 use mathlib.Core.Bool.{Bool, cond}
 use mathlib.Core.List.{List}
+use mathlib.Core.Logic.{_↔_}
+use mathlib.Core.Path.{_≡_}
 use lib.Dec.{leb}
 use lib.ListN.{length}
 use Rattle.writing.specs.Written.{put}
+use Rattle.summing.specs.declared.SumAnswer.{SumAnswer}
 use Rattle.summing.specs.Outcome.{Outcome, bufferAfter}
+use Rattle.merging.specs.declared.MergeAnswer.{MergeAnswer}
+use Rattle.answering.specs.declared.Answer.{Answer}
 
 -- The number that is no answer and no text.
 abbrev pub noRoom : ℕ
@@ -26,3 +31,20 @@ toldIn width values array = cond (roomFor width array) (put values array) array
 -- The lent buffer of a text afterwards: nothing is written either where the array has no room.
 unfoldable pub bufferTold : {A : Type 0} → (width : ℕ) (array : List ℕ) → Outcome A → List ℕ → List ℕ
 bufferTold width array outcome buffer = cond (roomFor width array) (bufferAfter outcome buffer) buffer
+
+-- The answer is SAFE.
+pub data IsSafe : Answer → Type 0 where
+  safe : (roles assigns revokes goals pinned : ℕ) → IsSafe (Answer.Safe roles assigns revokes goals pinned)
+
+-- The sum is written.
+pub data IsSummed : SumAnswer → Type 0 where
+  summed : (pinned written : ℕ) → IsSummed (SumAnswer.Summed pinned written)
+
+-- The sum of a merge is written.
+pub data IsMerged : MergeAnswer → Type 0 where
+  merged : (roles assigns revokes goals pinned written : ℕ) → IsMerged (MergeAnswer.Merged roles assigns revokes goals pinned written)
+
+-- What is answered is 255 exactly where the array has no room, and 0 exactly where it has room and the answer is a success.
+pub record Answered (width : ℕ) (array : List ℕ) (Success : Type 0) (answered : ℕ) : Type 0 where
+  pub none-told : answered ≡ noRoom ↔ length array < width
+  pub zero-told : answered ≡ 0 ↔ (width ≤ length array) × Success

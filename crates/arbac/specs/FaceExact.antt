@@ -1,5 +1,5 @@
 -- What a C caller may rely on: 255 means that there was no room and 0 a success, every value is told or zero, the place of the bad line is its place, and no line is longer than 128 bytes.
-use Prim.Native.Nat.{ℕ, _-_, _≤_, _<_}
+use Prim.Native.Nat.{ℕ, _-_, _≤_}
 use borrow.Author.Tests.{leb-true, leb-false, le-leb}
 use mathlib.Core.Bool.{Bool, true, false, cond}
 use mathlib.Core.List.{List}
@@ -28,14 +28,11 @@ use Rattle.printing.specs.Line.{field, partText, lineOf, checkLine}
 use Rattle.printing.specs.Program.{noFile, programLine}
 use Rattle.telling.specs.Numbers.{placeText}
 use Rattle.arbac.specs.Face.{noRoom, roomFor, toldNumber, toldIn}
-use Rattle.arbac.specs.FaceNumbers.{IsSafe, safe, IsSummed, summed, IsMerged, merged, check-numbered, sum-numbered, merge-numbered}
+use Rattle.arbac.specs.FaceNumbers.{check-numbered, sum-numbered, merge-numbered}
+use Rattle.arbac.specs.Face.{IsSafe, safe, IsSummed, summed, IsMerged, merged}
+use Rattle.arbac.specs.Face.{Answered}
 
 -- ---- the number that is answered
-
--- What is answered is 255 exactly where the array has no room, and 0 exactly where it has room and the answer is a success.
-pub record Answered (width : ℕ) (array : List ℕ) (Success : Type 0) (answered : ℕ) : Type 0 where
-  pub none-told : answered ≡ noRoom ↔ length array < width
-  pub zero-told : answered ≡ 0 ↔ (width ≤ length array) × Success
 
 -- a number that is told in an array, of which it is known when it is 0
 told-so : {number : ℕ} {Success : Type 0} (width : ℕ) (array : List ℕ) → number ≤ 19 → number ≡ 0 ↔ Success → Answered width array Success (toldNumber width number array)

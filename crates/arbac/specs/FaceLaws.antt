@@ -10,12 +10,12 @@ use Rattle.model.specs.Policy.{State, Run, Present}
 use Rattle.model.specs.Policy as model
 use Rattle.model.specs.States.{present-back}
 use Rattle.reading.specs.Sound.{read-sound}
-use Rattle.following.specs.Exact.{follows-run}
+use Rattle.following.specs.FollowsExact.{follows-run}
 use Rattle.writing.specs.Written.{put}
 use Rattle.summing.specs.Outcome.{Outcome, answerIn, bufferAfter, Meets}
 use Rattle.answering.specs.declared.Answer.{Answer}
 use Rattle.answering.specs.Answers.{answerOf}
-use Rattle.answering.specs.Exact.{attacked-exact}
+use Rattle.answering.specs.AnswerExact.{attacked-exact}
 use Rattle.telling.specs.Numbers.{Told, UserListed}
 use Rattle.telling.specs.NumberLaws.{known-told}
 use Rattle.arbac.specs.Face.{noRoom, roomFor, toldNumber, toldIn, bufferTold}

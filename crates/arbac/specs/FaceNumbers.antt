@@ -26,6 +26,7 @@ use Rattle.merging.specs.Merge as merge
 use Rattle.answering.specs.declared.Answer.{Answer}
 use Rattle.answering.specs.Answers.{numberOf, answerOf}
 use Rattle.answering.specs.Refusals.{policy-number, evidence-number, refused-number}
+use Rattle.arbac.specs.Face.{IsSafe, safe, IsSummed, summed, IsMerged, merged}
 
 -- ---- of any answer
 
@@ -47,10 +48,6 @@ text-number : {k : ℕ} → (10 ≤ k) × (k ≤ 16) → (10 ≤ k) × (k ≤ 19
 text-number between = (between .0, omega arith)
 
 -- ---- of `check`
-
--- The answer is SAFE.
-pub data IsSafe : Answer → Type 0 where
-  safe : (roles assigns revokes goals pinned : ℕ) → IsSafe (Answer.Safe roles assigns revokes goals pinned)
 
 pub check-numbered : (policy evidence : List ℕ) → Numbered numberOf IsSafe (answerOf policy evidence)
 check-numbered policy evidence = go (answerOf policy evidence) refl
@@ -79,10 +76,6 @@ unfolding whenRead answerIn
 when-read Holds refusing (read s) next bad good = good s
 when-read Holds refusing (refused number line) next bad good = bad number line refl
 
--- The sum is written.
-pub data IsSummed : SumAnswer → Type 0 where
-  summed : (pinned written : ℕ) → IsSummed (SumAnswer.Summed pinned written)
-
 sum-written : (room : ℕ) (names : List Name) (t : Table) → Numbered sum.numberOf IsSummed (answerIn (sum.sumWritten room names t))
 unfolding sum.sumWritten answerIn
 sum-written room names t = go (fits room (typingText names t))
@@ -98,10 +91,6 @@ sum-numbered policy first second room =
     when-read (Numbered sum.numberOf IsSummed) (SumAnswer.Refused 2) (readTyping (s .roles) first) _ (λ number line is. refusal sum.numberOf (SumAnswer.Refused 2 number line) (typing-refused (s .roles) first is)) (λ t.
     when-read (Numbered sum.numberOf IsSummed) (SumAnswer.Refused 3) (readTyping (s .roles) second) _ (λ number line is. refusal sum.numberOf (SumAnswer.Refused 3 number line) (typing-refused (s .roles) second is)) (λ u.
     sum-written room (s .roles) (sumOf (tableOf t) (tableOf u)))))
-
--- The sum of a merge is written.
-pub data IsMerged : MergeAnswer → Type 0 where
-  merged : (roles assigns revokes goals pinned written : ℕ) → IsMerged (MergeAnswer.Merged roles assigns revokes goals pinned written)
 
 abbrev Fine : MergeAnswer → Type 0
 Fine = Numbered merge.numberOf IsMerged

@@ -17,8 +17,8 @@ freshRound said before pair = record {
 }
 
 -- the pair of no roles
-unfoldable pub nobody : Pair
-nobody = record { held = emptySet; absent = emptySet }
+unfoldable pub noPair : Pair
+noPair = record { held = emptySet; absent = emptySet }
 
 -- The second pair has all that the clauses ask of the first.
 pub record Passed (said : Turned) (before pair : Pair) : Type 0 where
@@ -48,8 +48,8 @@ gains own set members before has =
 -- ---- rounds
 
 -- before the first round nothing was gone through
-pub passed-start : (said : Turned) (pair : Pair) → Passed said nobody pair
-unfolding nobody
+pub passed-start : (said : Turned) (pair : Pair) → Passed said noPair pair
+unfolding noPair
 passed-start said pair = record { plus = none (pair .held) (said .plus); minus = none (pair .absent) (said .minus); needed = none (pair .absent) (said .needed) }
   where
     none : (set : RoleSet) (own : ℕ → RoleSet) → unionOf set (setsOf own emptySet) ≡ set

@@ -21,7 +21,7 @@ use Rattle.merging.specs.Merge.{mergeOutcome}
 use Rattle.answering.specs.declared.Answer.{Answer}
 use Rattle.answering.specs.Answers.{answerOf}
 use Rattle.answering.specs.CheckRules.{Safe}
-use Rattle.answering.specs.Exact.{safe-exact}
+use Rattle.answering.specs.AnswerExact.{safe-exact}
 use Rattle.composing.specs.SumRules.{sumText}
 use Rattle.composing.specs.MergeRules.{isMerged, merged, MergeTexts, merge-so}
 use Rattle.composing.specs.MergeExact.{merge-success}

@@ -9,14 +9,15 @@ use Rattle.model.specs.declared.Typing.{Typing as Table}
 use Rattle.model.specs.Sized.{SizedPolicy}
 use Rattle.model.specs.Typing.{closure, RulesPass, Accepted}
 use Rattle.model.specs.Meaning.{meaning}
-use Rattle.rules.specs.Exact.{Laid}
+use Rattle.rules.specs.RuleExact.{Laid}
 use Rattle.walking.specs.Texts.{read}
 use Rattle.reading.specs.Policy.{Said, policyOf, readPolicy}
 use Rattle.typings.specs.TypingText.{Typed, readTyping, tableOf}
 use Rattle.judging.specs.declared.Part.{Part}
 use Rattle.judging.specs.declared.TypingVerdict.{TypingVerdict}
 use Rattle.judging.specs.Verdict.{typingVerdict, rulesVerdict}
-use Rattle.judging.specs.Exact.{FirstRule, FirstFailure, typing-accepted, rules-accepted, unproved-first, rules-first}
+use Rattle.judging.specs.TypingVerdictExact.{typing-accepted, rules-accepted, unproved-first, rules-first}
+use Rattle.judging.specs.Failures.{FirstRule, FirstFailure}
 use Rattle.verdicts.specs.PolicySized.{read-sized}
 use Rattle.verdicts.specs.Verdicts.{texts-laid}
 use Rattle.summing.specs.Outcome.{Outcome, leaves}

@@ -12,7 +12,7 @@ use Rattle.reading.specs.Policy.{Said, policyOf, readPolicy}
 use Rattle.typings.specs.TypingText.{Typed, readTyping, tableOf}
 use Rattle.judging.specs.declared.Part.{Part}
 use Rattle.judging.specs.Verdict.{pinnedNames}
-use Rattle.judging.specs.Exact.{FirstRule, FirstFailure}
+use Rattle.judging.specs.Failures.{FirstRule, FirstFailure}
 use Rattle.summing.specs.Sums.{sumOf}
 use Rattle.summing.specs.Outcome.{Outcome, leaves, writes}
 use Rattle.merging.specs.declared.MergeAnswer.{MergeAnswer}

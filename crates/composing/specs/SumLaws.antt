@@ -1,10 +1,9 @@
 -- The sum is the same in either order and grouping, and adding a typing to itself changes nothing: of the arrays, of the bytes written, and over the texts.
 use Prim.Native.Nat.{ℕ}
-use mathlib.Core.Bool.{_||_, or-comm, or-assoc, or-self}
+use mathlib.Core.Bool.{_||_, or-comm, or-assoc, or-self, true≢false}
 use mathlib.Core.List.{List, [], _∷_}
 use mathlib.Core.Logic.{_⊎_, inl, inr}
 use mathlib.Core.Path.{_≡_, refl, sym, ap, ap₂, _∙_}
-use native.Mathlib.Omega.{arith}
 use Rattle.roles.specs.Sets.{unionOf}
 use Rattle.roles.specs.MemberLaws.{union-comm, union-assoc, union-self}
 use Rattle.model.specs.declared.Typing.{Typing as Table}
@@ -110,7 +109,7 @@ module _ (policy : List ℕ) {s : Said} (reads : readPolicy policy ≡ read s) w
       written same = cc
 
       none : {A : SumAnswer} → leaves A ≡ writes answer text → ⊥
-      none same = let z : _≡_ {A = ℕ} 0 1 = cc in omega arith
+      none same = true≢false (cc)
 
       go : TextFits room (sumText s t u) ⊎ (TextFits room (sumText s t u) → ⊥) → sumWritten room (s .roles) (sumOf (tableOf t) (tableOf u)) ≡ writes answer text → readTyping (s .roles) text ≡ read (sumTyped t u)
       go (inl fit) same =

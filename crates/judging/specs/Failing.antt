@@ -8,19 +8,10 @@ use lib.ListN.{length}
 use native.Mathlib.Omega.{arith}
 use Rattle.steps.specs.First.{firstFrom, first}
 use Rattle.judging.specs.Verdict.{firstFailing}
-
--- The first element of a list that is not good has this number, from 1: all before it are good.
-pub record FirstBad {A : Type 0} (Good : A → Type 0) (xs : List A) (number : ℕ) : Type 0 where
-  pub before : List A
-  pub element : A
-  pub after : List A
-  pub listed : xs ≡ before ++ element ∷ after
-  pub numbered : number ≡ length before + 1
-  pub good : (x : A) → Listed x before → Good x
-  pub bad : Good element → ⊥
+use Rattle.judging.specs.Failures.{FailsAt}
 
 -- What is good by one reading is good by another.
-pub first-bad-by : {A : Type 0} {Good Fine : A → Type 0} {xs : List A} {number : ℕ} → ((x : A) → Listed x xs → Good x ↔ Fine x) → FirstBad Good xs number → FirstBad Fine xs number
+pub first-bad-by : {A : Type 0} {Good Fine : A → Type 0} {xs : List A} {number : ℕ} → ((x : A) → Listed x xs → Good x ↔ Fine x) → FailsAt Good xs number → FailsAt Fine xs number
 first-bad-by {A} {Good} {Fine} {xs} same f = record {
   before = f .before;
   element = f .element;
@@ -74,7 +65,7 @@ module _ {A : Type 0} (test : A → Bool) where
   Passes x = test x ≡ true
 
   -- one element more before it
-  one-before : {y : A} {ys : List A} {number : ℕ} → test y ≡ true → FirstBad Passes ys number → FirstBad Passes (y ∷ ys) (suc number)
+  one-before : {y : A} {ys : List A} {number : ℕ} → test y ≡ true → FailsAt Passes ys number → FailsAt Passes (y ∷ ys) (suc number)
   one-before {y} {ys} passes f = record {
     before = y ∷ f .before;
     element = f .element;
@@ -85,12 +76,12 @@ module _ {A : Type 0} (test : A → Bool) where
     bad = f .bad;
   }
 
-  some-first : (start number : ℕ) (xs : List A) → failFrom start xs ≡ suc number → (n : ℕ) × (number ≡ start + n) × FirstBad Passes xs (suc n)
+  some-first : (start number : ℕ) (xs : List A) → failFrom start xs ≡ suc number → (n : ℕ) × (number ≡ start + n) × FailsAt Passes xs (suc n)
   unfolding firstFrom
   some-first start number [] some = absurd (omega (arith, some))
   some-first start number (y ∷ ys) some = go (test y) refl (some-first (suc start) number ys)
     where
-      go : (b : Bool) → test y ≡ b → (failFrom (suc start) ys ≡ suc number → (n : ℕ) × (number ≡ suc start + n) × FirstBad Passes ys (suc n)) → (n : ℕ) × (number ≡ start + n) × FirstBad Passes (y ∷ ys) (suc n)
+      go : (b : Bool) → test y ≡ b → (failFrom (suc start) ys ≡ suc number → (n : ℕ) × (number ≡ suc start + n) × FailsAt Passes ys (suc n)) → (n : ℕ) × (number ≡ start + n) × FailsAt Passes (y ∷ ys) (suc n)
       go true e rest =
           let (n, far, found) = rest (sym (from-passes start y ys e) ∙ some) in
           (suc n, omega (arith, far), one-before e found)
@@ -106,18 +97,18 @@ module _ {A : Type 0} (test : A → Bool) where
       from-passes start y (ys ++ element ∷ after) (good y (here refl)) ∙ first-some (suc start) ys element after (λ x m. good x (later m)) bad ∙ omega arith
 
   -- The answer is a number above 0 exactly when the element of that number fails and those before it pass.
-  pub first-failing : (number : ℕ) (xs : List A) → firstFailing test xs ≡ suc number ↔ FirstBad (λ x. test x ≡ true) xs (suc number)
+  pub first-failing : (number : ℕ) (xs : List A) → firstFailing test xs ≡ suc number ↔ FailsAt (λ x. test x ≡ true) xs (suc number)
   unfolding firstFailing first
   first-failing number xs = (told, found)
     where
-      told : failFrom 0 xs ≡ suc number → FirstBad Passes xs (suc number)
+      told : failFrom 0 xs ≡ suc number → FailsAt Passes xs (suc number)
       told some =
           let (n, same, f) = some-first 0 number xs some in
-          subst⁻¹ (λ (k : ℕ). FirstBad Passes xs (suc k)) (same ∙ omega arith) f
+          subst⁻¹ (λ (k : ℕ). FailsAt Passes xs (suc k)) (same ∙ omega arith) f
 
       failed : (b : Bool) → (b ≡ true → ⊥) → b ≡ false
       failed true none = absurd (none refl)
       failed false none = refl
 
-      found : FirstBad Passes xs (suc number) → failFrom 0 xs ≡ suc number
+      found : FailsAt Passes xs (suc number) → failFrom 0 xs ≡ suc number
       found f = ap (failFrom 0) (f .listed) ∙ first-some 0 (f .before) (f .element) (f .after) (f .good) (failed (test (f .element)) (f .bad)) ∙ sym (f .numbered)

@@ -1,9 +1,8 @@
 -- The arrays that a policy text is read into are judged as the text itself.
-use Prim.Native.Nat.{ℕ, _-_, _≤_, min}
+use Prim.Native.Nat.{_-_, min}
 use mathlib.Core.List.{List}
-use mathlib.Core.Path.{_≡_, refl, sym, ap, _∙_}
-use lib.ListN.{length, take, replicate}
-use lib.Seq.{take-at}
+use mathlib.Core.Path.{_≡_, ap, _∙_}
+use lib.ListN.{length, take}
 use native.Mathlib.Omega.{arith}
 use Rattle.roles.specs.Sets.{emptySet}
 use Rattle.model.specs.declared.Typing.{Typing as Table}
@@ -14,20 +13,15 @@ use Rattle.tables.specs.Padded.{padded}
 use Rattle.reading.specs.Rules.{laidWith, laidOut}
 use Rattle.reading.specs.Sound.{Sound}
 use Rattle.judging.specs.Verdict.{Subject, subjectOf, policyIn, subjectIn, judgedRules, judgedTyping, rulesVerdict, typingVerdict}
-
--- as many elements of an array as were laid out in it
-counted : {A : Type 0} (size : ℕ) (filling : A) (xs : List A) {count : ℕ} → count ≡ length xs → length xs ≤ size → take (min count size) (padded size filling xs) ≡ xs
-unfolding padded
-counted size filling xs {count} many fits =
-    take-at xs (replicate (size - length xs) filling) (min count size) (omega (arith, many))
+use Rattle.tables.specs.Storing.{laid-back}
 
 -- Rules laid out are judged as what their text says: within the limits every count is the whole.
 pub policy-laid : {s : Said} → Sound s → policyIn (laidOut s) ≡ policyOf s
 unfolding policyIn policyOf laidOut laidWith countsOf
 policy-laid {s} b = λ i. record {
-  assigns = counted 256 noAssign (s .assigns) refl (b .assigns .most) i;
-  revokes = counted 256 noRevoke (s .revokes) refl (b .revokes .most) i;
-  goals = counted 32 emptySet (s .goals) refl (b .goals .most) i;
+  assigns = laid-back 256 noAssign (s .assigns) {count = min (length (s .assigns)) 256} (omega (arith, b .assigns .most)) i;
+  revokes = laid-back 256 noRevoke (s .revokes) {count = min (length (s .revokes)) 256} (omega (arith, b .revokes .most)) i;
+  goals = laid-back 32 emptySet (s .goals) {count = min (length (s .goals)) 32} (omega (arith, b .goals .most)) i;
 }
 
 -- So is a policy, with its people.
@@ -35,7 +29,7 @@ pub subject-laid : {s : Said} {persons : List Person} → Sound s → persons �
 unfolding subjectIn subjectOf laidOut laidWith countsOf
 subject-laid {s} b people = λ i. record {
   roles = length (s .roles);
-  holdings = (ap (take (min (length (s .users)) 64)) people ∙ counted 64 nobody (s .holdings) (sym (b .people)) (omega (arith, b .people, b .users .most))) i;
+  holdings = (ap (take (min (length (s .users)) 64)) people ∙ laid-back 64 nobody (s .holdings) {count = min (length (s .users)) 64} (omega (arith, b .people, b .users .most))) i;
   policy = policy-laid b i;
 }
 

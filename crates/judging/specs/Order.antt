@@ -1,6 +1,6 @@
 -- Verdicts one after the other: the first that is not accepted stands.
 use Prim.Native.Nat.{ℕ, zero, suc}
-use mathlib.Core.Bool.{Bool, true}
+use mathlib.Core.Bool.{Bool, true, true≢false}
 use mathlib.Core.List.{List, List·Memᴰ as Listed}
 use mathlib.Core.Logic.{_↔_, _⊎_, inl, inr, ⊎-elim}
 use mathlib.Core.Path.{_≡_, refl, sym, ap, ap₂, subst, _∙_}
@@ -9,7 +9,8 @@ use native.Mathlib.Omega.{arith}
 use Rattle.judging.specs.declared.Part.{Part}
 use Rattle.judging.specs.declared.TypingVerdict.{TypingVerdict}
 use Rattle.judging.specs.Verdict.{firstFailing, failingPart, andThen}
-use Rattle.judging.specs.Failing.{FirstBad, first-bad-by, none-failing, first-failing}
+use Rattle.judging.specs.Failing.{first-bad-by, none-failing, first-failing}
+use Rattle.judging.specs.Failures.{FailsAt}
 
 -- ---- a verdict and the next one
 
@@ -25,7 +26,7 @@ then-goes {next = next} accepted is stands = stands ∙ ap (λ (v : TypingVerdic
 
 -- accepted is no failure
 accepted-or : {part : Part} {number : ℕ} → TypingVerdict.Accepted ≡ TypingVerdict.Fails part number → ⊥
-accepted-or e = let z : _≡_ {A = ℕ} 0 1 = cc in omega arith
+accepted-or e = true≢false (cc)
 
 -- Both are accepted exactly when the whole is.
 pub both-accepted : (one next : TypingVerdict) → andThen one next ≡ TypingVerdict.Accepted ↔ ((one ≡ TypingVerdict.Accepted) × (next ≡ TypingVerdict.Accepted))
@@ -57,18 +58,18 @@ module _ (part : Part) {A : Type 0} {test : A → Bool} {Good : A → Type 0} {x
   )
 
   -- It fails with a number exactly when that number's element is the first that is not good.
-  pub part-fails : (other : Part) (number : ℕ) → failingPart part (firstFailing test xs) ≡ TypingVerdict.Fails other number ↔ ((part ≡ other) × FirstBad Good xs number)
+  pub part-fails : (other : Part) (number : ℕ) → failingPart part (firstFailing test xs) ≡ TypingVerdict.Fails other number ↔ ((part ≡ other) × FailsAt Good xs number)
   unfolding failingPart
   part-fails other number = (λ e. told (firstFailing test xs) refl e, λ both. found (both .0) (both .1))
     where
-      told : (k : ℕ) → firstFailing test xs ≡ k → failingPart part k ≡ TypingVerdict.Fails other number → (part ≡ other) × FirstBad Good xs number
+      told : (k : ℕ) → firstFailing test xs ≡ k → failingPart part k ≡ TypingVerdict.Fails other number → (part ≡ other) × FailsAt Good xs number
       told zero is e = absurd (accepted-or e)
       told (suc k) is e =
           let same : suc k ≡ number = cc in
-          (cc, subst (FirstBad Good xs) same (first-bad-by exact (first-failing test k xs .0 is)))
+          (cc, subst (FailsAt Good xs) same (first-bad-by exact (first-failing test k xs .0 is)))
 
-      found : part ≡ other → FirstBad Good xs number → failingPart part (firstFailing test xs) ≡ TypingVerdict.Fails other number
+      found : part ≡ other → FailsAt Good xs number → failingPart part (firstFailing test xs) ≡ TypingVerdict.Fails other number
       found same f =
           let one-more : number ≡ suc (length (f .before)) = omega (arith, f .numbered) in
-          let is = first-failing test (length (f .before)) xs .1 (first-bad-by (λ x m. (exact x m .1, exact x m .0)) (subst (FirstBad Good xs) one-more f)) in
+          let is = first-failing test (length (f .before)) xs .1 (first-bad-by (λ x m. (exact x m .1, exact x m .0)) (subst (FailsAt Good xs) one-more f)) in
           ap (failingPart part) is ∙ ap₂ TypingVerdict.Fails same (sym one-more)

@@ -13,7 +13,7 @@ use Rattle.roles.specs.MemberLaws.{empty-sized, size-members}
 use Rattle.model.specs.declared.Typing.{Typing as Table}
 use Rattle.model.specs.Meaning.{meaning}
 use Rattle.model.specs.Typing.{Typing}
-use Rattle.rules.specs.Exact.{Laid}
+use Rattle.rules.specs.RuleExact.{Laid}
 use Rattle.judging.specs.Verdict.{pinnedBelow, pinnedNames}
 
 -- How many members all sets of a list have.

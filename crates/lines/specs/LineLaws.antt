@@ -1,6 +1,6 @@
 -- Each kind of line from what a reader finds, its fields, and what a good line passes.
 use Prim.Native.Nat.{ℕ, _<_, max}
-use mathlib.Core.Bool.{Bool, true, false, cond, not, _&&_, and-eq-true-iff}
+use mathlib.Core.Bool.{Bool, true, false, cond, not, _&&_, and-eq-true-iff, true≢false}
 use mathlib.Core.List.{List, [], _∷_}
 use mathlib.Core.Path.{_≡_, refl, sym, ap, ap₂, subst, _∙_}
 use borrow.Author.Tests.{ltb-true}
@@ -193,7 +193,7 @@ pub line-good : (c : Counts) (roles users : List Name) (line : List ℕ) {e : En
 unfolding policyLine judged comesTo tests
 line-good c roles users line {e} good =
     let a = asked c roles users (lineOf (split 9 line)) in
-    let (passed, says) = turn-good PolicyLine.Bad (tests (a .formed) (a .within) (a .known)) (PolicyLine.Good (a .says)) (PolicyLine.Good e) (λ k is. let z : _≡_ {A = ℕ} 0 1 = cc in omega arith) good in
+    let (passed, says) = turn-good PolicyLine.Bad (tests (a .formed) (a .within) (a .known)) (PolicyLine.Good (a .says)) (PolicyLine.Good e) (λ k is. true≢false (cc)) good in
     record { formed = passed .0; within = passed .1 .0; known = passed .1 .1 .0; says = cc }
 
 -- There is room for the entry, and a holding's user is declared.

@@ -6,8 +6,7 @@ use mathlib.Core.Logic.{_↔_}
 use mathlib.Core.Path.{_≡_, refl, sym, ap, ap₂, subst, _∙_}
 use borrow.Author.Tests.{eq-eqb}
 use lib.Dec.{eqb}
-use lib.ListN.{length, take, replicate}
-use lib.Seq.{take-at}
+use lib.ListN.{length, take}
 use native.Mathlib.Omega.{arith}
 use Rattle.roles.specs.Sets.{sameSet}
 use Rattle.roles.specs.MemberLaws.{same-equal, equal-same}
@@ -20,9 +19,10 @@ use Rattle.reading.specs.declared.directory.Directory.{Directory}
 use Rattle.reading.specs.declared.policy.Rules.{Rules}
 use Rattle.reading.specs.Policy.{Said}
 use Rattle.tables.specs.Padded.{padded}
-use Rattle.reading.specs.Told.{Laid, roles-listed, users-listed, people-laid}
+use Rattle.reading.specs.Told.{Recorded, roles-listed, users-listed, people-laid}
 use Rattle.merging.specs.Directory.{sameLists, sameLabel, samePerson, sameDirectory, sameTables}
 use Rattle.merging.specs.Comparing.{same-names}
+use Rattle.tables.specs.Storing.{laid-back}
 
 -- ---- a test of two elements that is exact makes one of two lists
 
@@ -95,14 +95,14 @@ same-exact s s′ = (
 -- ---- the same of policies in arrays
 
 -- as many people as were laid out
-people : {s : Said} {D : Directory} {R : Rules} → Laid s D R → take (D .counts .users) (D .persons) ≡ s .holdings
+people : {s : Said} {D : Directory} {R : Rules} → Recorded s D R → take (D .counts .users) (D .persons) ≡ s .holdings
 unfolding padded
 people {s} {D} l =
     ap (take (D .counts .users)) (people-laid l)
-    ∙ take-at (s .holdings) (replicate (64 - length (s .holdings)) nobody) (D .counts .users) (omega (arith, l .users, l .sound .people))
+    ∙ laid-back 64 nobody (s .holdings) (omega (arith, l .users, l .sound .people))
 
 -- Two policies laid out are over the same directory where their texts are.
-pub directory-laid : {s s′ : Said} {D E : Directory} {P Q : Rules} → Laid s D P → Laid s′ E Q → sameTables D E ≡ sameDirectory s s′
+pub directory-laid : {s s′ : Said} {D E : Directory} {P Q : Rules} → Recorded s D P → Recorded s′ E Q → sameTables D E ≡ sameDirectory s s′
 unfolding sameTables sameDirectory
 directory-laid l l′ =
     ap₂ _&&_

@@ -7,7 +7,7 @@ use Rattle.lines.specs.declared.Counts.{Counts}
 use Rattle.reading.specs.declared.directory.Directory.{Directory}
 use Rattle.reading.specs.declared.policy.Rules.{Rules}
 use Rattle.reading.specs.Policy.{Said, countsOf}
-use Rattle.reading.specs.Told.{Laid, counts-laid, people-laid}
+use Rattle.reading.specs.Told.{Recorded, counts-laid, people-laid}
 use Rattle.judging.specs.declared.TypingVerdict.{TypingVerdict}
 use Rattle.judging.specs.Verdict.{policyIn, subjectIn, judgedTyping, judgedRules, typingVerdict, rulesVerdict}
 use Rattle.judging.specs.Layout.{typing-laid, rules-laid}
@@ -19,7 +19,7 @@ pub record Limited (c : Counts) : Type 0 where
   pub revokes : c .revokes ≤ 256
   pub goals : c .goals ≤ 32
 
-module _ {s : Said} {D : Directory} {R : Rules} (l : Laid s D R) where
+module _ {s : Said} {D : Directory} {R : Rules} (l : Recorded s D R) where
   -- the counts are within the limits
   pub limited : Limited (R .counts)
   unfolding countsOf

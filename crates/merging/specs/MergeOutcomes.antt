@@ -12,7 +12,7 @@ use Rattle.reading.specs.declared.directory.Directory.{Directory}
 use Rattle.reading.specs.declared.policy.Rules.{Rules}
 use Rattle.walking.specs.Texts.{read, refused}
 use Rattle.reading.specs.Policy.{Said, countsOf, readPolicy}
-use Rattle.reading.specs.Told.{Laid}
+use Rattle.reading.specs.Told.{Recorded}
 use Rattle.typings.specs.TypingText.{Typed, readTyping, tableOf}
 use Rattle.judging.specs.declared.Part.{Part}
 use Rattle.judging.specs.declared.TypingVerdict.{TypingVerdict}
@@ -59,7 +59,7 @@ module _ (policy₁ typing₁ policy₂ typing₂ : List ℕ) (room : ℕ) where
 
 -- ---- the directories and the four judgings
 
-module _ {s s′ : Said} {D E : Directory} {p q : Rules} (l : Laid s D p) (l′ : Laid s′ E q) (t u : Table) (room : ℕ) where
+module _ {s s′ : Said} {D E : Directory} {p q : Rules} (l : Recorded s D p) (l′ : Recorded s′ E q) (t u : Table) (room : ℕ) where
   -- the arrays tell whether the directories are the same
   same-told : {b : Bool} → sameTables D E ≡ b → sameDirectory s s′ ≡ b
   same-told is = sym (directory-laid l l′) ∙ is

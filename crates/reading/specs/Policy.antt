@@ -8,7 +8,7 @@ use Rattle.roles.specs.declared.RoleSet.{RoleSet}
 use Rattle.roles.specs.Sets.{emptySet, hasRole}
 use Rattle.model.specs.declared.Assign.{Assign}
 use Rattle.model.specs.declared.Revoke.{Revoke}
-use Rattle.model.specs.Policy.{Policy as Rules, State, person, granted}
+use Rattle.model.specs.Policy.{Policy, State, person, granted}
 use Rattle.tables.specs.declared.Name.{Name}
 use Rattle.lines.specs.declared.Counts.{Counts}
 use Rattle.lines.specs.declared.Entry.{Entry}
@@ -42,7 +42,7 @@ countsOf s = record {
 }
 
 -- The rules and goals that a policy text says.
-unfoldable pub policyOf : Said → Rules
+unfoldable pub policyOf : Said → Policy
 policyOf s = record { assigns = s .assigns; revokes = s .revokes; goals = s .goals }
 
 -- What is said with one part changed, and all else as it was.

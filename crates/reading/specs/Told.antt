@@ -27,7 +27,7 @@ use Rattle.reading.specs.PolicyRefusals.{PolicyRefusal}
 use Rattle.reading.specs.PolicyExact.{policy-refusal-exact}
 
 -- what a policy says, within the limits, laid out in both records
-pub record Laid (s : Said) (D : Directory) (R : Rules) : Type 0 where
+pub record Recorded (s : Said) (D : Directory) (R : Rules) : Type 0 where
   pub sound : Sound s
   pub directory : D ≡ directoryWith (D .at) (D .line) (D .counts) s
   pub roles : D .counts .roles ≡ length (s .roles)
@@ -38,7 +38,7 @@ pub record Laid (s : Said) (D : Directory) (R : Rules) : Type 0 where
 pub record Told (text : List ℕ) (D : Directory) (R : Rules) : Type 0 where
   pub said : Said
   pub is : readPolicy text ≡ read said
-  pub laid : Laid said D R
+  pub laid : Recorded said D R
 
 -- no refusal has the number 0
 refusal-number : {text : List ℕ} {k n : ℕ} → PolicyRefusal text k n → k ≡ 0 → ⊥
@@ -178,7 +178,7 @@ told text {D} {R} directed given none = go (readPolicy text) refl given
 
 -- ---- the tables and the counts
 
-module _ {s : Said} {D : Directory} {R : Rules} (l : Laid s D R) where
+module _ {s : Said} {D : Directory} {R : Rules} (l : Recorded s D R) where
   pub counts-laid : R .counts ≡ countsOf s
   unfolding laidOut laidWith
   counts-laid = ap (λ (q : Rules). q .counts) (l .rules)

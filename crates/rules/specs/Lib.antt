@@ -1,3 +1,3 @@
 -- The typing rules as tests, and that each test is exact.
 pub mod Tests
-pub mod Exact
+pub mod RuleExact

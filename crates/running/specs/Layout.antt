@@ -2,8 +2,7 @@
 use Prim.Native.Nat.{ℕ, _-_, _*_, _≤_}
 use mathlib.Core.List.{List, []}
 use mathlib.Core.Path.{_≡_, refl, sym, ap, _∙_}
-use lib.ListN.{length, take, replicate}
-use lib.Seq.{take-at}
+use lib.ListN.{length, take}
 use native.Mathlib.Omega.{arith}
 use Rattle.roles.specs.Sets.{emptySet}
 use Rattle.model.specs.declared.Person.{Person}
@@ -13,11 +12,11 @@ use Rattle.reading.specs.declared.directory.Directory.{Directory}
 use Rattle.reading.specs.declared.policy.Rules.{Rules}
 use Rattle.walking.specs.Texts.{Reading, read, refused}
 use Rattle.reading.specs.Policy.{Said, countsOf, policyOf}
-use Rattle.tables.specs.Padded.{padded}
 use Rattle.reading.specs.Rules.{laidWith, laidOut}
-use Rattle.reading.specs.Told.{Laid, users-laid, people-laid, tables-laid}
+use Rattle.reading.specs.Told.{Recorded, users-laid, people-laid, tables-laid}
 use Rattle.traces.specs.TraceText.{Traced, readTrace}
 use Rattle.running.specs.Verdict.{readVerdict, traceVerdict}
+use Rattle.tables.specs.Storing.{laid-back}
 
 -- The table of the user names, the people, and the rules and goals.
 pub record Arrays : Type 0 where
@@ -40,8 +39,8 @@ pub record Counted (p : Arrays) : Type 0 where
   pub named : 4 * p .rules .counts .users ≤ length (p .users)
 
 -- What the arrays say. A run asks nothing of the role names.
-unfoldable pub saidIn : Arrays → Said
-saidIn p = record {
+unfoldable pub saidOf : Arrays → Said
+saidOf p = record {
   stage = p .rules .counts .stage;
   roles = [];
   users = rows (p .rules .counts .users) (p .users);
@@ -50,11 +49,6 @@ saidIn p = record {
   revokes = take (p .rules .counts .revokes) (p .rules .revokes);
   goals = take (p .rules .counts .goals) (p .rules .goals);
 }
-
--- as many elements of an array as were laid out in it
-laid-first : {A : Type 0} (size : ℕ) (filling : A) (xs : List A) {count : ℕ} → count ≡ length xs → take count (padded size filling xs) ≡ xs
-unfolding padded
-laid-first size filling xs {count} many = take-at xs (replicate (size - length xs) filling) count (omega (arith, many))
 
 -- a policy without its role names
 unnamed : Said → Said
@@ -68,18 +62,18 @@ unnamed-verdict s text = go (readTrace (length (s .assigns)) (length (s .revokes
     go (read t) = refl
     go (refused number line) = refl
 
-module _ {s : Said} {D : Directory} {R : Rules} (l : Laid s D R) where
+module _ {s : Said} {D : Directory} {R : Rules} (l : Recorded s D R) where
   -- Of a policy that is read they say what was read,
-  said-laid : saidIn (arrays (D .users) (D .persons) R) ≡ unnamed s
-  unfolding saidIn stateIn laidOut laidWith countsOf unnamed
+  said-laid : saidOf (arrays (D .users) (D .persons) R) ≡ unnamed s
+  unfolding saidOf stateIn laidOut laidWith countsOf unnamed
   said-laid = λ i. record {
     stage = l .rules i .counts .stage;
     roles = [];
     users = users-laid l i;
-    holdings = (ap (λ (r : Rules). take (r .counts .users) (D .persons)) (l .rules) ∙ ap (take (length (s .users))) (people-laid l) ∙ laid-first 64 nobody (s .holdings) (sym (l .sound .people))) i;
-    assigns = (ap (λ (r : Rules). take (r .counts .assigns) (r .assigns)) (l .rules) ∙ laid-first 256 noAssign (s .assigns) refl) i;
-    revokes = (ap (λ (r : Rules). take (r .counts .revokes) (r .revokes)) (l .rules) ∙ laid-first 256 noRevoke (s .revokes) refl) i;
-    goals = (ap (λ (r : Rules). take (r .counts .goals) (r .goals)) (l .rules) ∙ laid-first 32 emptySet (s .goals) refl) i;
+    holdings = (ap (λ (r : Rules). take (r .counts .users) (D .persons)) (l .rules) ∙ ap (take (length (s .users))) (people-laid l) ∙ laid-back 64 nobody (s .holdings) (sym (l .sound .people))) i;
+    assigns = (ap (λ (r : Rules). take (r .counts .assigns) (r .assigns)) (l .rules) ∙ laid-back 256 noAssign (s .assigns) refl) i;
+    revokes = (ap (λ (r : Rules). take (r .counts .revokes) (r .revokes)) (l .rules) ∙ laid-back 256 noRevoke (s .revokes) refl) i;
+    goals = (ap (λ (r : Rules). take (r .counts .goals) (r .goals)) (l .rules) ∙ laid-back 32 emptySet (s .goals) refl) i;
   }
 
   -- and the counts are within their limits.
@@ -93,5 +87,5 @@ module _ {s : Said} {D : Directory} {R : Rules} (l : Laid s D R) where
   }
 
   -- So the verdict on a trace over the arrays is that over the text.
-  pub verdict-laid : (text : List ℕ) → traceVerdict (saidIn (arrays (D .users) (D .persons) R)) text ≡ traceVerdict s text
+  pub verdict-laid : (text : List ℕ) → traceVerdict (saidOf (arrays (D .users) (D .persons) R)) text ≡ traceVerdict s text
   verdict-laid text = ap (λ (s : Said). traceVerdict s text) said-laid ∙ unnamed-verdict s text

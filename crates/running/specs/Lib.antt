@@ -6,4 +6,4 @@ pub mod Range
 pub mod Trying
 pub mod Reached
 pub mod Says
-pub mod VerdictExact
+pub mod TraceVerdictExact

@@ -22,13 +22,13 @@ use Rattle.steps.specs.declared.Step.{Step}
 use Rattle.steps.specs.Tests.{firstBad}
 use Rattle.steps.specs.Traces.{possible, after, Ran, ran, runOf}
 use Rattle.steps.specs.Runs.{run-more, run-breaks}
-use Rattle.steps.specs.Exact.{broken-stays}
+use Rattle.steps.specs.StepExact.{broken-stays}
 use Rattle.traces.specs.declared.TraceLine.{TraceLine}
 use Rattle.traces.specs.TraceLines.{traceLine}
 use Rattle.traces.specs.TraceText.{Traced, readTrace}
 use Rattle.traces.specs.TraceWalk.{After, after-header, line-last, line-step}
 use Rattle.running.specs.declared.TraceVerdict.{TraceVerdict}
-use Rattle.running.specs.Layout.{Arrays, stateIn, Counted, saidIn}
+use Rattle.running.specs.Layout.{Arrays, stateIn, Counted, saidOf}
 use Rattle.running.specs.declared.Tried.{Tried}
 use Rattle.running.specs.Trying.{triedIn, wholeOf, tried-taken, tried-place, tried-possible, tried-after}
 use Rattle.running.specs.Range.{Ranged, within, line-range}
@@ -49,21 +49,21 @@ pub record Reached (p : Arrays) (text : List ℕ) (at number steps stopped : ℕ
   pub few : steps ≤ at
   -- they run to the state that the array holds, or the first that is not possible is known
   pub wide : length persons ≡ 64
-  pub run : runOf (policyOf (saidIn p)) (stateIn p (p .persons)) said ≡ soFar stopped (stateIn p persons)
+  pub run : runOf (policyOf (saidOf p)) (stateIn p (p .persons)) said ≡ soFar stopped (stateIn p persons)
   -- the whole text gives what the lines from here on give
   pub after : After (p .rules .counts .assigns) (p .rules .counts .revokes) (rows (p .rules .counts .users) (p .users)) text at number said
 
 -- the verdict goes by what the text gives
 verdict-is : {p : Arrays} → Arrayed p → (text : List ℕ) {given : Reading Traced} → readTrace (p .rules .counts .assigns) (p .rules .counts .revokes) (rows (p .rules .counts .users) (p .users)) text ≡ given
-    → readVerdict (saidIn p) given ≡ traceVerdict (saidIn p) text
-unfolding traceVerdict saidIn
+    → readVerdict (saidOf p) given ≡ traceVerdict (saidOf p) text
+unfolding traceVerdict saidOf
 verdict-is {p} arrayed text {given} is =
     let assigns : length (take (p .rules .counts .assigns) (p .rules .assigns)) ≡ p .rules .counts .assigns = length-take (p .rules .counts .assigns) (p .rules .assigns) ∙ omega (arith, arrayed .assigns, arrayed .counts .assigns) in
     let revokes : length (take (p .rules .counts .revokes) (p .rules .revokes)) ≡ p .rules .counts .revokes = length-take (p .rules .counts .revokes) (p .rules .revokes) ∙ omega (arith, arrayed .revokes, arrayed .counts .revokes) in
-    ap (readVerdict (saidIn p)) (sym (ap₂ (λ (a r : ℕ). readTrace a r (rows (p .rules .counts .users) (p .users)) text) assigns revokes ∙ is))
+    ap (readVerdict (saidOf p)) (sym (ap₂ (λ (a r : ℕ). readTrace a r (rows (p .rules .counts .users) (p .users)) text) assigns revokes ∙ is))
 
 pub refused-is : {p : Arrays} → Arrayed p → (text : List ℕ) {k n : ℕ} → readTrace (p .rules .counts .assigns) (p .rules .counts .revokes) (rows (p .rules .counts .users) (p .users)) text ≡ refused k n
-    → TraceVerdict.Refused k n ≡ traceVerdict (saidIn p) text
+    → TraceVerdict.Refused k n ≡ traceVerdict (saidOf p) text
 unfolding readVerdict
 refused-is arrayed text is = verdict-is arrayed text is
 
@@ -88,8 +88,8 @@ end-is steps (suc number) goals σ = refl
 module _ {p : Arrays} {text : List ℕ} {at number steps stopped : ℕ} {persons : List Person} (r : Reached p text at number steps stopped persons) {stop : ℕ} (sought : Sought text at 10 stop) (here : stop < length text) where
   -- the last line
   pub reached-last : {found : Found} {verdict : TraceVerdict} → sameBytes (part text at stop) (bytes "end") ≡ true → length text ≤ stop + 1
-      → found ≡ firstBad (stateIn p persons) (take (p .rules .counts .goals) (p .rules .goals)) → verdict ≡ endVerdict stopped steps found → verdict ≡ traceVerdict (saidIn p) text
-  unfolding readVerdict saidIn
+      → found ≡ firstBad (stateIn p persons) (take (p .rules .counts .goals) (p .rules .goals)) → verdict ≡ endVerdict stopped steps found → verdict ≡ traceVerdict (saidOf p) text
+  unfolding readVerdict saidOf
   reached-last {found} last all finds is =
       is ∙ ap (endVerdict stopped steps) finds ∙ end-is steps stopped (take (p .rules .counts .goals) (p .rules .goals)) (stateIn p persons)
       ∙ ap₂ (λ (n : ℕ) (x : Ran). ranVerdict n (take (p .rules .counts .goals) (p .rules .goals)) x) (r .counted) (sym (r .run))
@@ -97,7 +97,7 @@ module _ {p : Arrays} {text : List ℕ} {at number steps stopped : ℕ} {persons
 
   -- a step more
   module _ (is-not : sameBytes (part text at stop) (bytes "end") ≡ false) {answer : TraceLine} (given : answer ≡ traceLine (p .rules .counts .assigns) (p .rules .counts .revokes) (rows (p .rules .counts .users) (p .users)) (part text at stop)) {step : Step} (told : answer ≡ TraceLine.Step step) where
-    step-more : (stopped′ : ℕ) (persons′ : List Person) → length persons′ ≡ 64 → runOf (policyOf (saidIn p)) (stateIn p (p .persons)) (r .said ++ (step ∷ [])) ≡ soFar stopped′ (stateIn p persons′)
+    step-more : (stopped′ : ℕ) (persons′ : List Person) → length persons′ ≡ 64 → runOf (policyOf (saidOf p)) (stateIn p (p .persons)) (r .said ++ (step ∷ [])) ≡ soFar stopped′ (stateIn p persons′)
         → Reached p text (stop + 1) (number + 1) (steps + 1) stopped′ persons′
     step-more stopped′ persons′ wide run = record {
       arrayed = r .arrayed;
@@ -114,10 +114,10 @@ module _ {p : Arrays} {text : List ℕ} {at number steps stopped : ℕ} {persons
     unfolding soFar
     step-passed some = step-more stopped persons (r .wide) (go stopped some (r .run))
       where
-        go : (n : ℕ) → (n ≡ 0 → ⊥) → runOf (policyOf (saidIn p)) (stateIn p (p .persons)) (r .said) ≡ soFar n (stateIn p persons)
-            → runOf (policyOf (saidIn p)) (stateIn p (p .persons)) (r .said ++ (step ∷ [])) ≡ soFar n (stateIn p persons)
+        go : (n : ℕ) → (n ≡ 0 → ⊥) → runOf (policyOf (saidOf p)) (stateIn p (p .persons)) (r .said) ≡ soFar n (stateIn p persons)
+            → runOf (policyOf (saidOf p)) (stateIn p (p .persons)) (r .said ++ (step ∷ [])) ≡ soFar n (stateIn p persons)
         go zero positive run = absurd (positive refl)
-        go (suc n) positive run = broken-stays (policyOf (saidIn p)) (stateIn p (p .persons)) (r .said) (step ∷ []) (suc n) run
+        go (suc n) positive run = broken-stays (policyOf (saidOf p)) (stateIn p (p .persons)) (r .said) (step ∷ []) (suc n) run
 
     ranged : Ranged (p .rules .counts .assigns) (p .rules .counts .revokes) (p .rules .counts .users) step
     ranged =
@@ -129,40 +129,40 @@ module _ {p : Arrays} {text : List ℕ} {at number steps stopped : ℕ} {persons
 
     -- the step was tried over the arrays
     module _ (none : stopped ≡ 0) {tried : Tried} (over : tried ≡ triedIn (wholeOf (p .rules)) persons step) where
-      running : runOf (policyOf (saidIn p)) (stateIn p (p .persons)) (r .said) ≡ ran (stateIn p persons)
+      running : runOf (policyOf (saidOf p)) (stateIn p (p .persons)) (r .said) ≡ ran (stateIn p persons)
       unfolding soFar
       running = r .run ∙ ap (λ (n : ℕ). soFar n (stateIn p persons)) none
 
       -- as over what they hold
-      tried-is : triedIn (policyOf (saidIn p)) (stateIn p persons) step ≡ tried
+      tried-is : triedIn (policyOf (saidOf p)) (stateIn p persons) step ≡ tried
       tried-is = tried-taken p persons step ranged ∙ sym over
 
-      may-is : possible (policyOf (saidIn p)) (stateIn p persons) step ≡ tried .possible
-      unfolding policyOf saidIn stateIn
+      may-is : possible (policyOf (saidOf p)) (stateIn p persons) step ≡ tried .possible
+      unfolding policyOf saidOf stateIn
       may-is =
-          tried-possible (policyOf (saidIn p)) (stateIn p persons) step
+          tried-possible (policyOf (saidOf p)) (stateIn p persons) step
           (within step (omega (arith, length-take (p .rules .counts .assigns) (p .rules .assigns), r .arrayed .assigns, r .arrayed .counts .assigns))
           (omega (arith, length-take (p .rules .counts .revokes) (p .rules .revokes), r .arrayed .revokes, r .arrayed .counts .revokes))
           (omega (arith, length-take (p .rules .counts .users) persons, r .wide, r .arrayed .counts .users)) ranged)
           ∙ ap (λ (t : Tried). t .possible) tried-is
 
-      after-is : after (policyOf (saidIn p)) (stateIn p persons) step ≡ stateIn p (set persons (tried .place) (tried .user))
+      after-is : after (policyOf (saidOf p)) (stateIn p persons) step ≡ stateIn p (set persons (tried .place) (tried .user))
       unfolding stateIn
       after-is =
           let below = tried-place (wholeOf (p .rules)) persons (p .rules .counts .assigns) (p .rules .counts .revokes) (p .rules .counts .users) step ranged in
-          tried-after (policyOf (saidIn p)) (stateIn p persons) step ∙ ap (λ (t : Tried). set (stateIn p persons) (t .place) (t .user)) tried-is
+          tried-after (policyOf (saidOf p)) (stateIn p persons) step ∙ ap (λ (t : Tried). set (stateIn p persons) (t .place) (t .user)) tried-is
           ∙ sym (take-set-lt (p .rules .counts .users) persons (tried .place) (tried .user) (omega (arith, ap (λ (t : Tried). t .place) over, below)))
 
       pub step-goes : tried .possible ≡ true → Reached p text (stop + 1) (number + 1) (steps + 1) stopped (set persons (tried .place) (tried .user))
       unfolding soFar
       step-goes is =
           step-more stopped (set persons (tried .place) (tried .user)) (length-set persons (tried .place) (tried .user) ∙ r .wide)
-          (run-more (policyOf (saidIn p)) (stateIn p (p .persons)) (r .said) step running (may-is ∙ is) ∙ ap ran after-is
+          (run-more (policyOf (saidOf p)) (stateIn p (p .persons)) (r .said) step running (may-is ∙ is) ∙ ap ran after-is
           ∙ sym (ap (λ (n : ℕ). soFar n (stateIn p (set persons (tried .place) (tried .user)))) none))
 
       pub step-breaks : tried .possible ≡ false → Reached p text (stop + 1) (number + 1) (steps + 1) (steps + 1) persons
       unfolding soFar
       step-breaks is =
           step-more (steps + 1) persons (r .wide)
-          (run-breaks (policyOf (saidIn p)) (stateIn p (p .persons)) (r .said) step [] running (may-is ∙ is)
+          (run-breaks (policyOf (saidOf p)) (stateIn p (p .persons)) (r .said) step [] running (may-is ∙ is)
           ∙ sym (ap (λ (n : ℕ). soFar n (stateIn p persons)) (add-one steps ∙ ap suc (r .counted))))

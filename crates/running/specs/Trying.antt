@@ -12,7 +12,7 @@ use Rattle.steps.specs.Tests.{mayAssign, mayRevoke}
 use Rattle.steps.specs.Traces.{assignAt, revokeAt, possible, after}
 use Rattle.steps.specs.Arrays.{assign-may, revoke-may, assign-after, revoke-after, person-taken, assign-taken, revoke-taken}
 use Rattle.running.specs.declared.Tried.{Tried}
-use Rattle.running.specs.Layout.{Arrays, saidIn, stateIn}
+use Rattle.running.specs.Layout.{Arrays, saidOf, stateIn}
 use Rattle.running.specs.Range.{Ranged}
 
 unfoldable pub triedIn : Policy → State → Step → Tried
@@ -29,8 +29,8 @@ wholeOf r = record { assigns = r .assigns; revokes = r .revokes; goals = r .goal
 
 -- A step in range is tried over what the arrays say as over the whole of them,
 pub tried-taken : (p : Arrays) (persons : List Person) (step : Step) → Ranged (p .rules .counts .assigns) (p .rules .counts .revokes) (p .rules .counts .users) step
-    → triedIn (policyOf (saidIn p)) (stateIn p persons) step ≡ triedIn (wholeOf (p .rules)) persons step
-unfolding triedIn person policyOf saidIn stateIn
+    → triedIn (policyOf (saidOf p)) (stateIn p persons) step ≡ triedIn (wholeOf (p .rules)) persons step
+unfolding triedIn person policyOf saidOf stateIn
 tried-taken p persons (Step.Assign actor rule user) r =
     rw (assign-taken (p .rules .assigns) (p .rules .counts .assigns) (r .ruled), person-taken persons (p .rules .counts .users) (r .acts), person-taken persons (p .rules .counts .users) (r .used))
 tried-taken p persons (Step.Revoke actor rule user) r =

@@ -3,7 +3,7 @@ ghost use mathlib.Core.Path.{_≡_};
 ghost use Rattle.model.specs.Policy.{withRole, withoutRole};
 ghost use Rattle.steps.specs.Tests.{mayAssign, mayRevoke};
 ghost use Rattle.running.specs.Verdict.{endVerdict, traceVerdict};
-ghost use Rattle.running.specs.Layout.{arrays, Counted, saidIn};
+ghost use Rattle.running.specs.Layout.{arrays, Counted, saidOf};
 use model::Assign;
 use model::Person;
 use model::Revoke;
@@ -74,7 +74,7 @@ fn ending(broken: usize, steps: usize, found: Found) -> TraceVerdict
 // The verdict on a trace text over the user names, the people and the rules of a policy. The first bad line decides a refusal; after the first step that is not one, lines are read on.
 pub fn run_trace(text: &[u8], users: &[u64], people: [Person; 64], p: Rules) -> TraceVerdict
     requires { ⌜ Counted (arrays (now users) people p) ⌝ }
-    ensures { λ r. ⌜ r ≡ traceVerdict (saidIn (arrays (now (users .entry)) people p)) (now (text .entry)) ⌝ }
+    ensures { λ r. ⌜ r ≡ traceVerdict (saidOf (arrays (now (users .entry)) people p)) (now (text .entry)) ⌝ }
 {
     let end = text.len();
     if 32768 < end {

@@ -5,7 +5,7 @@ pub mod Traces
 pub mod Places
 pub mod PlaceLaws
 pub mod Runs
-pub mod Exact
+pub mod StepExact
 pub mod Bad
 pub mod BadLaws
 pub mod Arrays

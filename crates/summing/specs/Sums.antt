@@ -3,6 +3,7 @@ use mathlib.Core.Bool.{_||_}
 use mathlib.Core.List.{List, [], _∷_}
 use Rattle.roles.specs.Sets.{unionOf}
 use Rattle.model.specs.declared.Typing.{Typing as Table}
+use Rattle.typings.specs.TypingText.{Typed}
 
 -- two lists, element by element, as far as both go
 unfoldable pub paired {ℓ} : {A : Type ℓ} → (A → A → A) → List A → List A → List A

@@ -2,8 +2,8 @@
 use Prim.Native.Nat.{ℕ, zero, suc, _+_, _-_, _*_, _≤_, _<_}
 use mathlib.Core.List.{List, [], _∷_, _++_, append-assoc}
 use mathlib.Core.Path.{_≡_, refl, sym, ap, ap₂, _∙_}
-use lib.ListN.{length, getD, set, replicate, length-append, length-set, length-replicate, List·getD-append}
-use lib.Seq.{set-append-left}
+use lib.ListN.{length, getD, take, set, replicate, length-append, length-set, length-replicate, List·getD-append}
+use lib.Seq.{set-append-left, take-at}
 use native.Mathlib.Nat.{add-zero, zero-add, suc-add}
 use native.Mathlib.Omega.{arith}
 use Rattle.tables.specs.declared.Name.{Name}
@@ -105,3 +105,8 @@ table-names names count many is = ap₂ rows many is ∙ rows-laid names (replic
 -- one element more is one more in the count
 pub more-one {ℓ} : {A : Type ℓ} (xs : List A) (a : A) {n : ℕ} → n ≡ length xs → n + 1 ≡ length (xs ++ (a ∷ []))
 more-one xs a many = omega (arith, many, length-append xs (a ∷ []))
+
+-- as many elements of an array as were laid out in it
+pub laid-back : {A : Type 0} (size : ℕ) (filling : A) (xs : List A) {count : ℕ} → count ≡ length xs → take count (padded size filling xs) ≡ xs
+unfolding padded
+laid-back size filling xs {count} many = take-at xs (replicate (size - length xs) filling) count (sym many)

@@ -12,7 +12,7 @@ use Rattle.roles.specs.Members.{Sized}
 use Rattle.roles.specs.MemberLaws.{empty-sized}
 use Rattle.model.specs.Policy.{L}
 use Rattle.model.specs.Meaning.{meaning}
-use Rattle.rules.specs.Exact.{Laid}
+use Rattle.rules.specs.RuleExact.{Laid}
 use Rattle.tables.specs.declared.Name.{Name}
 use Rattle.text.specs.Forms.{bytes}
 use Rattle.text.specs.Pieces.{split, sameBytes}

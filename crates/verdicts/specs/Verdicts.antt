@@ -6,14 +6,14 @@ use mathlib.Core.Path.{_≡_}
 use lib.ListN.{length}
 use Rattle.model.specs.Typing.{Accepted}
 use Rattle.model.specs.Meaning.{meaning}
-use Rattle.rules.specs.Exact.{Laid}
+use Rattle.rules.specs.RuleExact.{Laid}
 use Rattle.walking.specs.Texts.{read}
 use Rattle.reading.specs.Policy.{Said, policyOf, readPolicy}
 use Rattle.reading.specs.Sound.{read-sound}
 use Rattle.typings.specs.TypingText.{Typed, readTyping, tableOf}
 use Rattle.judging.specs.declared.TypingVerdict.{TypingVerdict}
 use Rattle.judging.specs.Verdict.{typingVerdict}
-use Rattle.judging.specs.Exact.{typing-accepted}
+use Rattle.judging.specs.TypingVerdictExact.{typing-accepted}
 use Rattle.verdicts.specs.PolicySized.{read-sized}
 use Rattle.verdicts.specs.TypingLaid.{read-laid}
 

@@ -1,18 +1,17 @@
 -- What every good line keeps holds of every text that is read.
 use Prim.Native.Nat.{ℕ, suc}
-use mathlib.Core.Bool.{Bool, true, false, cond}
+use mathlib.Core.Bool.{Bool, true, false, cond, true≢false}
 use mathlib.Core.List.{List, [], _∷_}
 use mathlib.Core.Path.{_≡_, refl, subst}
 use lib.Dec.{ltb}
 use lib.ListN.{length}
-use native.Mathlib.Omega.{arith}
 use Rattle.text.specs.Pieces.{split}
 use Rattle.walking.specs.Texts.{Judged, goes, ends, bad, Reading, read, refused, closing, onward, readLines, readText}
 
 module _ {S : Type 0} (judge : S → List ℕ → Judged S) (malformed : ℕ) (Good : S → Type 0) (keeps : (s t : S) (line : List ℕ) → judge s line ≡ goes t → Good s → Good t) where
   -- a refusal is no reading
   apart : {number line : ℕ} {t : S} → refused number line ≡ read t → ⊥
-  apart e = let z : _≡_ {A = ℕ} 0 1 = cc in omega arith
+  apart e = true≢false (cc)
 
   read-one : {s t : S} → read s ≡ read t → s ≡ t
   read-one e = cc

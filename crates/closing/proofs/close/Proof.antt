@@ -10,7 +10,7 @@ use Rattle.sheets.specs.Words.{saidIn}
 use Rattle.closing.specs.declared.Pair.{Pair}
 use Rattle.closing.specs.Rounds.{roundOf, samePair, roundsOf, closeOf}
 use Rattle.closing.specs.Steps.{rounds-stop, rounds-go-on}
-use Rattle.closing.specs.Fresh.{freshRound, nobody, Passed, passed-start, fresh-round, passed-round}
+use Rattle.closing.specs.Fresh.{freshRound, noPair, Passed, passed-start, fresh-round, passed-round}
 use Rattle.closing.proofs.close.Statement.{statement}
 use Rattle.closing.proofs.close.Tie as tie
 
@@ -49,7 +49,7 @@ empty-requires : tie.Need-empty-requires Inv-loop μ-loop
 empty-requires c κs = search needs
 
 loop-holds : tie.Need-loop-holds Inv-loop μ-loop
-unfolding closeOf nobody
+unfolding closeOf noPair
 loop-holds c = record { most = omega arith; passed = rw (c .empty .ensures) (passed-start _ _); left = refl }
 
 round-requires : tie.Need-round-requires Inv-loop μ-loop

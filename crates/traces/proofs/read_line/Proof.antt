@@ -3,7 +3,8 @@ use borrow.Author.Needs.{needs}
 use mathlib.Core.Path.{_∙_}
 use Rattle.fields.specs.Cutting.{one-field, two-fields, three-fields, four-fields, more-fields}
 use Rattle.walking.specs.Turns.{inTurn}
-use Rattle.traces.specs.TraceLines.{lineOf, stepFormed, judged, by-fields}
+use Rattle.traces.specs.TraceLines.{lineOf, stepFormed, judged}
+use Rattle.traces.specs.TraceLineLaws.{by-fields}
 use Rattle.traces.proofs.read_line.Statement.{statement}
 use Rattle.traces.proofs.read_line.Tie as tie
 

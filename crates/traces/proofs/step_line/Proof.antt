@@ -1,7 +1,7 @@
 -- `step_line` is judged by its word, its names and its number.
 use borrow.Author.Needs.{needs}
 use mathlib.Core.Path.{ap, _∙_}
-use Rattle.traces.specs.TraceLines.{step-judged}
+use Rattle.traces.specs.TraceLineLaws.{step-judged}
 use Rattle.fields.specs.Fields.{placed}
 use Rattle.tables.specs.Names.{placeOf, rows}
 use Rattle.tables.specs.NameLaws.{rows-length}

@@ -16,14 +16,14 @@ use Rattle.traces.specs.TraceText.{Traced, readTrace}
 use Rattle.typings.specs.Kind.{isTyping}
 use Rattle.judging.specs.declared.Part.{Part}
 use Rattle.judging.specs.declared.TypingVerdict.{TypingVerdict}
-use Rattle.judging.specs.Exact.{FirstFailure}
+use Rattle.judging.specs.Failures.{FirstFailure}
 use Rattle.judging.specs.Verdict.{typingVerdict, pinnedNames}
-use Rattle.judging.specs.Exact as judging
+use Rattle.judging.specs.TypingVerdictExact as judging
 use Rattle.running.specs.declared.TraceVerdict.{TraceVerdict}
 use Rattle.running.specs.Verdict.{traceVerdict}
 use Rattle.running.specs.Says.{Attacked, Broken, Short}
-use Rattle.running.specs.VerdictExact.{attacked-attack}
-use Rattle.running.specs.Says as running
+use Rattle.running.specs.TraceVerdictExact.{attacked-attack}
+use Rattle.running.specs.TraceVerdictExact as running
 use Rattle.verdicts.specs.PolicySized.{read-sized}
 use Rattle.verdicts.specs.Verdicts as verdicts
 use Rattle.answering.specs.declared.Answer.{Answer}

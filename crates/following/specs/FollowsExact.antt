@@ -15,7 +15,7 @@ use Rattle.steps.specs.declared.Step.{Step}
 use Rattle.steps.specs.PlaceLaws.{at-inside, at-stands, stands-at, at-listed, listed-at}
 use Rattle.steps.specs.Traces.{assignAt, revokeAt, possible, after, broken, ran, later, runOf}
 use Rattle.steps.specs.Runs.{ran-same, broken-ran, later-ran, run-on, run-off}
-use Rattle.steps.specs.Exact.{BrokenAt, assign-possible, revoke-possible, broken-first}
+use Rattle.steps.specs.StepExact.{BrokenAt, assign-possible, revoke-possible, broken-first}
 use Rattle.following.specs.Follows.{Use, Follows, Breaks}
 
 -- ---- a step

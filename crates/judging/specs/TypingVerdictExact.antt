@@ -10,31 +10,20 @@ use Rattle.model.specs.declared.Typing.{Typing as Table}
 use Rattle.model.specs.declared.Assign.{Assign}
 use Rattle.model.specs.declared.Revoke.{Revoke}
 use Rattle.model.specs.declared.Person.{Person}
-use Rattle.model.specs.Policy.{Policy, State, nobody, person}
+use Rattle.model.specs.Policy.{State, nobody, person}
 use Rattle.model.specs.Sized.{SizedPolicy}
 use Rattle.model.specs.Typing.{Typing, closure, AssignPasses, RevokePasses, WellTyped, HoldingsPass, GoalPasses, RulesPass, Accepted}
 use Rattle.model.specs.Meaning.{meaning}
 use Rattle.sheets.specs.Turned.{turnedOf}
 use Rattle.rules.specs.Tests.{personPasses, assignPasses, revokePasses, goalPasses}
-use Rattle.rules.specs.Exact.{Laid, person-exact, assign-exact, revoke-exact, goal-exact}
+use Rattle.rules.specs.RuleExact.{Laid, person-exact, assign-exact, revoke-exact, goal-exact}
 use Rattle.reading.specs.Policy.{Said, policyOf}
 use Rattle.steps.specs.PlaceLaws.{at-inside, at-stands, stands-at, at-listed, listed-at}
 use Rattle.judging.specs.declared.Part.{Part}
 use Rattle.judging.specs.declared.TypingVerdict.{TypingVerdict}
 use Rattle.judging.specs.Verdict.{subjectOf, firstHolding, firstAssign, firstRevoke, firstGoal, failingPart, andThen, rulesSaid, allSaid, judgedRules, judgedTyping, rulesVerdict, typingVerdict}
-use Rattle.judging.specs.Failing.{FirstBad}
+use Rattle.judging.specs.Failures.{FirstRule, at-assign, at-revoke, FirstFailure, at-holdings, at-rule, at-goal}
 use Rattle.judging.specs.Order.{both-accepted, one-fails, part-accepted, part-fails}
-
--- The first rule that fails: an assign rule, or a revoke rule where all assign rules pass.
-pub data FirstRule (Γ : Typing) (P : Policy) : Part → ℕ → Type 0 where
-  at-assign : {number : ℕ} → FirstBad (AssignPasses closure Γ) (P .assigns) number → FirstRule Γ P Part.Assign number
-  at-revoke : {number : ℕ} → ((rule : Assign) → Listed rule (P .assigns) → AssignPasses closure Γ rule) → FirstBad (RevokePasses Γ) (P .revokes) number → FirstRule Γ P Part.Revoke number
-
--- The first failure: a user's holdings; or a rule, where the holdings pass; or a goal, where holdings and rules pass.
-pub data FirstFailure (Γ : Typing) (P : Policy) (σ : State) : Part → ℕ → Type 0 where
-  at-holdings : {number : ℕ} → FirstBad (WellTyped Γ) σ number → FirstFailure Γ P σ Part.Holdings number
-  at-rule : {part : Part} {number : ℕ} → HoldingsPass Γ σ → FirstRule Γ P part number → FirstFailure Γ P σ part number
-  at-goal : {number : ℕ} → HoldingsPass Γ σ → RulesPass closure Γ P → FirstBad (GoalPasses closure Γ) (P .goals) number → FirstFailure Γ P σ Part.Goal number
 
 -- ---- the holdings of every user, by place or by person
 

@@ -1,4 +1,5 @@
 -- The verdict on a trace is exact: each answer exactly when its rule says so.
+use mathlib.Core.Bool.{true≢false}
 use Prim.Native.Nat.{ℕ, zero, suc, _-_}
 use mathlib.Core.List.{List, List·Memᴰ as Listed}
 use mathlib.Core.Logic.{_↔_}
@@ -18,7 +19,7 @@ use Rattle.steps.specs.Tests.{firstBad}
 use Rattle.steps.specs.Traces.{Ran, broken, ran, runOf}
 use Rattle.steps.specs.Bad.{FirstBad}
 use Rattle.steps.specs.BadLaws.{bad-exact, bad-first, first-only, first-is-bad}
-use Rattle.following.specs.Exact.{follows-exact, breaks-exact, follows-run}
+use Rattle.following.specs.FollowsExact.{follows-exact, breaks-exact, follows-run}
 use Rattle.traces.specs.TraceText.{Traced, readTrace}
 use Rattle.running.specs.declared.TraceVerdict.{TraceVerdict}
 use Rattle.running.specs.Ends.{last-short, last-attacked}
@@ -82,9 +83,9 @@ refused-told {k = k} {n = n} (no-trace {number = number} {line = line} reads) e 
     let number-is : number ≡ k = cc in
     let line-is : line ≡ n = cc in
     reads ∙ ap₂ refused number-is line-is
-refused-told (stops reads runs) e = absurd (let z : _≡_ {A = ℕ} 0 1 = cc in omega arith)
-refused-told (no-one reads runs none) e = absurd (let z : _≡_ {A = ℕ} 0 1 = cc in omega arith)
-refused-told (someone reads runs one) e = absurd (let z : _≡_ {A = ℕ} 0 1 = cc in omega arith)
+refused-told (stops reads runs) e = absurd (true≢false (cc))
+refused-told (no-one reads runs none) e = absurd (true≢false (cc))
+refused-told (someone reads runs one) e = absurd (true≢false (cc))
 
 -- REFUSED with a number and a line exactly when reading the text is.
 pub run-refused : (s : Said) (text : List ℕ) (k n : ℕ) → traceVerdict s text ≡ TraceVerdict.Refused k n ↔ (readTrace (length (s .assigns)) (length (s .revokes)) (s .users) text ≡ refused k n)
@@ -99,9 +100,9 @@ module _ (s : Said) (sized : SizedPolicy (policyOf s)) where
   goals-sized goal listed = sized .goals listed
 
   attacked-told : {text : List ℕ} {v : TraceVerdict} {n u g : ℕ} → Outcome s text v → v ≡ TraceVerdict.Attacked n u g → Attacked s text n u g
-  attacked-told (no-trace reads) e = absurd (let z : _≡_ {A = ℕ} 0 1 = cc in omega arith)
-  attacked-told (stops told runs) e = absurd (let z : _≡_ {A = ℕ} 0 1 = cc in omega arith)
-  attacked-told (no-one told runs none) e = absurd (let z : _≡_ {A = ℕ} 0 1 = cc in omega arith)
+  attacked-told (no-trace reads) e = absurd (true≢false (cc))
+  attacked-told (stops told runs) e = absurd (true≢false (cc))
+  attacked-told (no-one told runs none) e = absurd (true≢false (cc))
   attacked-told {u = u} {g = g} (someone {steps = steps} {last = last} {user = user} told runs one) e =
       let user-is : firstBad last (s .goals) .user ≡ suc u = one ∙ ap suc (cc) in
       let goal-is : firstBad last (s .goals) .goal ≡ g = cc in
@@ -124,12 +125,12 @@ module _ (s : Said) (sized : SizedPolicy (policyOf s)) where
           ∙ ap₂ (λ (m k : ℕ). TraceVerdict.Attacked m u k) (sym (a .counted)) (ap (λ (f : Found). f .goal) found)
 
   broken-told : {text : List ℕ} {v : TraceVerdict} {n : ℕ} → Outcome s text v → v ≡ TraceVerdict.Broken n → Broken s text n
-  broken-told (no-trace reads) e = absurd (let z : _≡_ {A = ℕ} 0 1 = cc in omega arith)
+  broken-told (no-trace reads) e = absurd (true≢false (cc))
   broken-told {n = n} (stops {steps = steps} {number = number} told runs) e =
       let same : number ≡ n = cc in
       record { steps = steps; reads = told; breaks = breaks-exact sized (s .holdings) steps n .0 (runs ∙ ap broken same) }
-  broken-told (no-one told runs none) e = absurd (let z : _≡_ {A = ℕ} 0 1 = cc in omega arith)
-  broken-told (someone told runs one) e = absurd (let z : _≡_ {A = ℕ} 0 1 = cc in omega arith)
+  broken-told (no-one told runs none) e = absurd (true≢false (cc))
+  broken-told (someone told runs one) e = absurd (true≢false (cc))
 
   -- BROKEN with a number exactly when the text is read, the steps before that number follow, and the step with that number is none there.
   pub broken-first : (text : List ℕ) (n : ℕ) → traceVerdict s text ≡ TraceVerdict.Broken n ↔ Broken s text n
@@ -137,11 +138,11 @@ module _ (s : Said) (sized : SizedPolicy (policyOf s)) where
   broken-first text n = (broken-told (outcome s text), λ b. verdict-run s text (b .reads) (breaks-exact sized (s .holdings) (b .steps) n .1 (b .breaks)))
 
   short-told : {text : List ℕ} {v : TraceVerdict} {n : ℕ} → Outcome s text v → v ≡ TraceVerdict.Short n → Short s text n
-  short-told (no-trace reads) e = absurd (let z : _≡_ {A = ℕ} 0 1 = cc in omega arith)
-  short-told (stops told runs) e = absurd (let z : _≡_ {A = ℕ} 0 1 = cc in omega arith)
+  short-told (no-trace reads) e = absurd (true≢false (cc))
+  short-told (stops told runs) e = absurd (true≢false (cc))
   short-told (no-one {steps = steps} {last = last} told runs none) e =
       record { steps = steps; reads = told; counted = cc; last = last; follows = follows-exact sized (s .holdings) last steps .0 runs; safe = bad-exact goals-sized last .0 none }
-  short-told (someone told runs one) e = absurd (let z : _≡_ {A = ℕ} 0 1 = cc in omega arith)
+  short-told (someone told runs one) e = absurd (true≢false (cc))
 
   -- SHORT exactly when the text is read as that many steps, and they follow to a state that is not bad.
   pub short-exact : (text : List ℕ) (n : ℕ) → traceVerdict s text ≡ TraceVerdict.Short n ↔ Short s text n
