@@ -14,6 +14,7 @@ use Rattle.typings.specs.TypingRefusals.{TypingRefusal}
 use Rattle.traces.specs.TraceRefusals.{TraceRefusal}
 use Rattle.typings.specs.Kind.{isTyping}
 use Rattle.judging.specs.Verdict.{pinnedNames}
+use Rattle.model.specs.Policy.{State, Run, Bad}
 
 -- Both texts are read, the evidence as a typing, and so much holds of them.
 pub record TypingTexts (policy evidence : List ℕ) (Holds : Said → Typed → Type 0) : Type 0 where

@@ -27,10 +27,8 @@ use Rattle.answering.specs.Answers.{numberOf, answerOf, nameAt}
 use Rattle.printing.specs.Line.{field, partText, lineOf, checkLine}
 use Rattle.printing.specs.Program.{noFile, programLine}
 use Rattle.telling.specs.Numbers.{placeText}
-use Rattle.arbac.specs.Face.{noRoom, roomFor, toldNumber, toldIn}
+use Rattle.arbac.specs.Face.{noRoom, roomFor, toldNumber, toldIn, IsSafe, safe, IsSummed, summed, IsMerged, merged, Answered}
 use Rattle.arbac.specs.FaceNumbers.{check-numbered, sum-numbered, merge-numbered}
-use Rattle.arbac.specs.Face.{IsSafe, safe, IsSummed, summed, IsMerged, merged}
-use Rattle.arbac.specs.Face.{Answered}
 
 -- ---- the number that is answered
 

@@ -12,9 +12,10 @@ use Rattle.summing.specs.Outcome.{Outcome, leaves, writes, answerIn, bufferAfte
 use Rattle.summing.specs.Sum.{sumOutcome}
 use Rattle.merging.specs.declared.MergeAnswer.{MergeAnswer}
 use Rattle.merging.specs.Merge.{mergeOutcome}
-use Rattle.composing.specs.SumRules.{sumText, summed, isSummed, SumTexts, sum-so}
+use Rattle.composing.specs.SumRules.{sumText, summed, isSummed, SumTexts}
+use Rattle.composing.specs.RuleLaws.{sum-so, merge-so}
 use Rattle.composing.specs.SumExact.{sum-success, sum-leaves}
-use Rattle.composing.specs.MergeRules.{merged, isMerged, MergeTexts, merge-so}
+use Rattle.composing.specs.MergeRules.{merged, isMerged, MergeTexts}
 use Rattle.composing.specs.MergeExact.{merge-success, merge-leaves}
 use Rattle.composing.specs.Buffer.{Filled}
 

@@ -13,8 +13,7 @@ use Rattle.reading.specs.Policy.{Said, policyOf, readPolicy}
 use Rattle.typings.specs.TypingText.{Typed, readTyping, tableOf}
 use Rattle.judging.specs.Verdict.{pinnedNames}
 use Rattle.rereading.specs.Fits.{fits-read}
-use Rattle.summing.specs.Sums.{sumOf}
-use Rattle.summing.specs.Sums.{sumTyped}
+use Rattle.summing.specs.Sums.{sumOf, sumTyped}
 use Rattle.summing.specs.Outcome.{answerIn, bufferAfter}
 use Rattle.merging.specs.declared.MergeAnswer.{MergeAnswer}
 use Rattle.merging.specs.Merge.{mergeOutcome}
@@ -23,7 +22,8 @@ use Rattle.answering.specs.Answers.{answerOf}
 use Rattle.answering.specs.CheckRules.{Safe}
 use Rattle.answering.specs.AnswerExact.{safe-exact}
 use Rattle.composing.specs.SumRules.{sumText}
-use Rattle.composing.specs.MergeRules.{isMerged, merged, MergeTexts, merge-so}
+use Rattle.composing.specs.MergeRules.{isMerged, merged, MergeTexts}
+use Rattle.composing.specs.RuleLaws.{merge-so}
 use Rattle.composing.specs.MergeExact.{merge-success}
 use Rattle.composing.specs.BufferLaws.{merge-filled}
 use Rattle.composing.specs.Summed.{sum-laid}

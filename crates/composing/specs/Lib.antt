@@ -3,6 +3,7 @@ pub mod SumRules
 pub mod Outcomes
 pub mod SumExact
 pub mod MergeRules
+pub mod RuleLaws
 pub mod Judgings
 pub mod Crossed
 pub mod MergeExact

@@ -4,9 +4,8 @@ use mathlib.Core.Bool.{Bool, true, false}
 use mathlib.Core.List.{List}
 use mathlib.Core.Path.{_≡_}
 use lib.ListN.{length}
-use Rattle.model.specs.Typing.{Typing, closure, RulesPass, Accepted}
+use Rattle.model.specs.Typing.{Typing, closure, RulesPass, Accepted, Compatible}
 use Rattle.model.specs.Meaning.{meaning}
-use Rattle.model.specs.Typing.{Compatible}
 use Rattle.walking.specs.Texts.{read, refused}
 use Rattle.reading.specs.Policy.{Said, policyOf, readPolicy}
 use Rattle.typings.specs.TypingText.{Typed, readTyping, tableOf}
@@ -81,14 +80,6 @@ module _ (policy₁ typing₁ policy₂ typing₂ : List ℕ) where
     typing-two = four;
     holds = holds;
   }
-
-  -- what follows from what holds
-  pub merge-so : {A B : Said → Typed → Said → Typed → Type 0}
-      → ((s : Said) (t : Typed) (s′ : Said) (u : Typed) → readPolicy policy₁ ≡ read s → readTyping (s .roles) typing₁ ≡ read t → readPolicy policy₂ ≡ read s′ → readTyping (s′ .roles) typing₂ ≡ read u → A s t s′ u → B s t s′ u)
-      → MergeTexts A → MergeTexts B
-  merge-so so texts =
-      merge-texts (texts .policy-one) (texts .typing-one) (texts .policy-two) (texts .typing-two)
-      (so (texts .said₁) (texts .typed₁) (texts .said₂) (texts .typed₂) (texts .policy-one) (texts .typing-one) (texts .policy-two) (texts .typing-two) (texts .holds))
 
   -- The rules of merge: the answer, and what is written with it. A refusal's first number says which text it speaks of, 0 none.
   pub data Merges (room : ℕ) : Outcome MergeAnswer → Type 0 where

@@ -14,9 +14,10 @@ use Rattle.summing.specs.Outcome.{answerIn, bufferAfter}
 use Rattle.summing.specs.Sum.{sumOutcome}
 use Rattle.merging.specs.declared.MergeAnswer.{MergeAnswer}
 use Rattle.merging.specs.Merge.{mergeOutcome}
-use Rattle.composing.specs.SumRules.{sumText, TextFits, isSummed, SumTexts, sum-so}
+use Rattle.composing.specs.SumRules.{sumText, TextFits, isSummed, SumTexts}
+use Rattle.composing.specs.RuleLaws.{sum-so, merge-so}
 use Rattle.composing.specs.SumExact.{sum-success}
-use Rattle.composing.specs.MergeRules.{isMerged, MergeTexts, merge-so}
+use Rattle.composing.specs.MergeRules.{isMerged, MergeTexts}
 use Rattle.composing.specs.MergeExact.{merge-success}
 use Rattle.composing.specs.BufferLaws.{sum-filled, merge-filled}
 use Rattle.composing.specs.Summed.{sum-back}

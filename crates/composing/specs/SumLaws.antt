@@ -14,8 +14,7 @@ use Rattle.typings.specs.TypingText.{Typed, readTyping, tableOf}
 use Rattle.spelling.specs.TypingText.{typingText}
 use Rattle.rereading.specs.Fits.{fits-read}
 use Rattle.summing.specs.declared.SumAnswer.{SumAnswer}
-use Rattle.summing.specs.Sums.{paired, sumOf}
-use Rattle.summing.specs.Sums.{sumTyped}
+use Rattle.summing.specs.Sums.{paired, sumOf, sumTyped}
 use Rattle.summing.specs.Outcome.{leaves, writes}
 use Rattle.summing.specs.Sum.{sumWritten, sumOutcome}
 use Rattle.composing.specs.SumRules.{sumText, TextFits}

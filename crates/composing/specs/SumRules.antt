@@ -46,12 +46,6 @@ module _ (policy first second : List ℕ) where
   abbrev pub sum-texts : {Holds : Said → Typed → Typed → Type 0} {s : Said} {t u : Typed} → readPolicy policy ≡ read s → readTyping (s .roles) first ≡ read t → readTyping (s .roles) second ≡ read u → Holds s t u → SumTexts Holds
   sum-texts {s = s} {t = t} {u = u} reads one two holds = record { said = s; one = t; two = u; policy-read = reads; first-read = one; second-read = two; holds = holds }
 
-  -- what follows from what holds
-  pub sum-so : {A B : Said → Typed → Typed → Type 0} → ((s : Said) (t u : Typed) → readPolicy policy ≡ read s → readTyping (s .roles) first ≡ read t → readTyping (s .roles) second ≡ read u → A s t u → B s t u)
-      → SumTexts A → SumTexts B
-  sum-so so texts =
-      sum-texts (texts .policy-read) (texts .first-read) (texts .second-read) (so (texts .said) (texts .one) (texts .two) (texts .policy-read) (texts .first-read) (texts .second-read) (texts .holds))
-
   -- The rules of sum: the answer, and what is written with it. A refusal's first number says which text it speaks of, 0 none.
   pub data Sums (room : ℕ) : Outcome SumAnswer → Type 0 where
     no-policy : {number line : ℕ} → readPolicy policy ≡ refused number line → Sums room (leaves (SumAnswer.Refused 1 number line))

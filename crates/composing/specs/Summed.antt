@@ -21,9 +21,8 @@ use Rattle.tables.specs.Named.{Named}
 use Rattle.rereading.specs.Fits.{Fits}
 use Rattle.fields.specs.Roles.{Inside}
 use Rattle.rereading.specs.Back.{reads-back}
-use Rattle.summing.specs.Sums.{paired, sumOf}
+use Rattle.summing.specs.Sums.{paired, sumOf, sumTyped}
 use Rattle.summing.specs.SumLaws.{Full, sum-meaning, Even, table-sum}
-use Rattle.summing.specs.Sums.{sumTyped}
 
 -- ---- two columns of as many elements, element by element
 

@@ -17,7 +17,8 @@ use Rattle.rereading.specs.Fits.{Fits, fits-read}
 use Rattle.summing.specs.Sums.{sumOf}
 use Rattle.summing.specs.Outcome.{answerIn}
 use Rattle.merging.specs.Merge.{mergeOutcome}
-use Rattle.composing.specs.MergeRules.{Passing, isMerged, MergeTexts, merge-so}
+use Rattle.composing.specs.MergeRules.{Passing, isMerged, MergeTexts}
+use Rattle.composing.specs.RuleLaws.{merge-so}
 use Rattle.composing.specs.MergeExact.{merge-success}
 use Rattle.composing.specs.Summed.{sum-means}
 

@@ -12,8 +12,7 @@ use native.Mathlib.Numerals.{add-one}
 use native.Mathlib.Omega.{arith}
 use Rattle.text.specs.Pieces.{split, among, repeated}
 use Rattle.distinct.specs.Names.{symbol, before, names, Ended, before-comma, before-byte, names-comma, names-byte, names-hold, names-ended, names-repeat, repeated-names}
-use Rattle.distinct.specs.Tree.{Sought, Down, root, next, Stored, leading, onward, Blank, Tree, Kept}
-use Rattle.distinct.specs.Tree.{sought-one, down-one, aside-kept, down-kept, stored-kept, set-kept, leading-root, leading-down, aside-leading, aside-near, node-there}
+use Rattle.distinct.specs.Tree.{Sought, Down, root, next, Stored, leading, onward, Blank, Tree, Kept, sought-one, down-one, aside-kept, down-kept, stored-kept, set-kept, leading-root, leading-down, aside-leading, aside-near, node-there}
 
 -- the tree of what stands before a place, the slot from which on the byte at the place is looked for, and no name that stands twice
 pub record Reading (field links : List ℕ) (at slot : ℕ) : Type 0 where

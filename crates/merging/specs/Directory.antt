@@ -1,6 +1,7 @@
 -- Whether two policies are over the same roles in order, the same users in order, with the same clearances and holdings.
 use mathlib.Core.Bool.{Bool, true, false, not, cond, _&&_}
 use mathlib.Core.List.{List, [], _∷_}
+use mathlib.Core.Path.{_≡_}
 use lib.ListN.{take}
 use Rattle.roles.specs.Sets.{sameSet}
 use Rattle.model.specs.declared.Person.{Person}

@@ -20,7 +20,7 @@ use Rattle.reading.specs.declared.policy.Rules.{Rules}
 use Rattle.reading.specs.Policy.{Said}
 use Rattle.tables.specs.Padded.{padded}
 use Rattle.reading.specs.Told.{Recorded, roles-listed, users-listed, people-laid}
-use Rattle.merging.specs.Directory.{sameLists, sameLabel, samePerson, sameDirectory, sameTables}
+use Rattle.merging.specs.Directory.{sameLists, sameLabel, samePerson, sameDirectory, sameTables, SameDirectory}
 use Rattle.merging.specs.Comparing.{same-names}
 use Rattle.tables.specs.Storing.{laid-back}
 
@@ -99,7 +99,7 @@ people : {s : Said} {D : Directory} {R : Rules} → Recorded s D R → take (D .
 unfolding padded
 people {s} {D} l =
     ap (take (D .counts .users)) (people-laid l)
-    ∙ laid-back 64 nobody (s .holdings) (omega (arith, l .users, l .sound .people))
+    ∙ laid-back 64 nobody (s .holdings) {count = D .counts .users} (omega (arith, l .users, l .sound .people))
 
 -- Two policies laid out are over the same directory where their texts are.
 pub directory-laid : {s s′ : Said} {D E : Directory} {P Q : Rules} → Recorded s D P → Recorded s′ E Q → sameTables D E ≡ sameDirectory s s′

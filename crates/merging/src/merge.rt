@@ -4,7 +4,7 @@ ghost use Prim.Native.Nat.{_*_, _≤_};
 ghost use lib.ListN.{length};
 ghost use Rattle.tables.specs.Names.{rows};
 ghost use Rattle.reading.specs.Policy.{Said, countsOf};
-ghost use Rattle.reading.specs.Told.{Laid};
+ghost use Rattle.reading.specs.Told.{Recorded};
 ghost use Rattle.summing.specs.Outcome.{Meets};
 ghost use Rattle.merging.specs.Merge.{whenSame, mergeJudged, mergeCounted, mergeOutcome};
 ghost use Rattle.merging.specs.Layout.{Limited};
@@ -61,7 +61,7 @@ fn merge_read(
     out: &mut [u8],
 ) -> MergeAnswer
     requires { ⌜ (d .counts .roles ≤ 128) × (d .counts .users ≤ 64) × Limited (p .counts) × Limited (q .counts) ⌝ }
-    ensures { λ r. ⌜ ((s s′ : Said) → Laid s d p → Laid s′ e q → Meets (whenSame s s′ (mergeJudged (length (now (out .entry))) s t s′ u)) (now (out .entry)) r (now (out .exit))) ⌝ }
+    ensures { λ r. ⌜ ((s s′ : Said) → Recorded s d p → Recorded s′ e q → Meets (whenSame s s′ (mergeJudged (length (now (out .entry))) s t s′ u)) (now (out .entry)) r (now (out .exit))) ⌝ }
 {
     if !same_directory(d, e) {
         return MergeAnswer::Refused(0, 17, 0);

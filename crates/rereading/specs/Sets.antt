@@ -17,13 +17,11 @@ use Rattle.text.specs.Pieces.{repeated}
 use Rattle.fields.specs.Fields.{placed, isDeclared, allDeclared, rolesFrom, rolesOf}
 use Rattle.writing.specs.Written.{spelled}
 use Rattle.spelling.specs.TypingText.{namesFrom, setText}
-use Rattle.fields.specs.Roles.{roles-sized}
+use Rattle.fields.specs.Roles.{roles-sized, role-kept, role-passes, Inside}
 use Rattle.rereading.specs.Cuts.{free}
 use Rattle.rereading.specs.Joined.{names-back, Apart, free-joined}
-use Rattle.fields.specs.Roles.{role-kept, role-passes}
 use Rattle.tables.specs.Named.{Named}
 use Rattle.rereading.specs.Standing.{Standing, none, more, standing, spelled-form, spelled-placed, each-written, written-once}
-use Rattle.fields.specs.Roles.{Inside}
 
 -- each role of the set is at the place of a name that is written
 each-its : (table : List Name) (set acc : RoleSet) {role : ℕ} {rest : List Name} → Standing table role rest → {r : ℕ} → r ∈ set → role ≤ r → r < length table → r ∈ rolesFrom table acc (namesFrom role set rest)

@@ -12,7 +12,7 @@ use Rattle.model.specs.Typing.{sum}
 use Rattle.model.specs.Meaning.{meaning}
 use Rattle.tables.specs.Padded.{padded}
 use Rattle.typings.specs.TypingText.{Typed, tableOf}
-use Rattle.summing.specs.Sums.{paired, sumOf}
+use Rattle.summing.specs.Sums.{paired, sumOf, sumTyped}
 
 -- ---- two lists of the same length, element by element
 

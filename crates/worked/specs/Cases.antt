@@ -10,7 +10,7 @@ use Rattle.closing.specs.Rounds.{roundOf, samePair, roundsOf, closeOf}
 use Rattle.rules.specs.Tests.{implies, inconsistentRole, personPasses, holdsHigh, unopposedTarget, unneededTarget, targetSuits, assignPasses, revokePasses, goalPasses}
 use Rattle.model.specs.Meaning.{meaning}
 use Rattle.bytes.specs.Bytes.{indexOf}
-use Rattle.model.specs.Policy.{revoked}
+use Rattle.model.specs.Policy.{revoked, withoutRole}
 use Rattle.text.specs.Forms.{bytes, isNumber, decimal, numberOf}
 use Rattle.tables.specs.Names.{sameName}
 use Rattle.reading.specs.Policy.{policyOf}
@@ -32,6 +32,7 @@ use Rattle.merging.specs.Merge.{whenSame, whenAccepted, mergeJudged, mergeOutco
 use Rattle.merging.specs.Merge as merge
 use Rattle.answering.specs.Answers.{judgedAnswer, typingAnswer, traceAnswer, evidenceAnswer, answerAfter, answerOf}
 use Rattle.answering.specs.Answers as answer
+use Rattle.walking.specs.Turns.{inTurn}
 
 -- opens every definition of judging
 unfoldable judging : Unit {0}
@@ -119,5 +120,5 @@ rows =
 
 -- Each row is answered so. P11 is a law by itself (`own-target-passes`).
 pub worked-cases : map (λ (r : Row). told (r .asked)) rows ≡ map (λ (r : Row). r .answer) rows
-unfolding reading judging padded indexOf revoked isNumber decimal numberOf turnOf typing.oneField typing.twoFields typing.lineOf typing.wellFormed typing.named typing.entry typing.answerTo typing.judged typing.typingLine typings.untyped typings.added typings.answered typings.judgeLine typings.readTyping typings.tableOf trace.fourFields trace.lineOf trace.isStep trace.stepNamed trace.answerTo trace.judged trace.traceLine traces.untraced traces.headerLine traces.laterLine traces.answered traces.judgeLine traces.readTrace isTyping mayAssign mayRevoke withTarget withoutTarget lowestGoal ownGoal badPerson goalOf firstBad assignAt revokeAt possible after later runOf lastVerdict ranVerdict readVerdict traceVerdict judgedAnswer typingAnswer traceAnswer evidenceAnswer answerAfter answerOf rulesVerdict sameName sameLists sameLabel samePerson sameDirectory whenRead answerIn whenSame whenAccepted mergeJudged mergeOutcome told
+unfolding reading judging padded indexOf withoutRole revoked isNumber decimal numberOf inTurn typing.oneField typing.twoFields typing.lineOf typing.wellFormed typing.named typing.entry typing.judged typing.typingLine typings.untyped typings.added typings.answered typings.judgeLine typings.readTyping typings.tableOf trace.fourFields trace.lineOf trace.isStep trace.stepNamed trace.stepFormed trace.stepKnown trace.stepSaid trace.judged trace.traceLine traces.untraced traces.headerLine traces.laterLine traces.answered traces.judgeLine traces.readTrace isTyping mayAssign mayRevoke lowestGoal ownGoal badPerson goalOf firstBad assignAt revokeAt possible after later runOf lastVerdict ranVerdict readVerdict traceVerdict judgedAnswer typingAnswer traceAnswer evidenceAnswer answerAfter answerOf rulesVerdict sameName sameLists sameLabel samePerson sameDirectory whenRead answerIn whenSame whenAccepted mergeJudged mergeOutcome told
 worked-cases = refl

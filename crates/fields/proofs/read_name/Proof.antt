@@ -5,15 +5,9 @@ use borrow.Author.Tests.{not-true, not-false, lt-ltb, le-ltb}
 use lib.Dec.{ltb}
 use mathlib.Core.Bool.{true, false}
 use mathlib.Core.Path.{sym, _∙_, ap}
-use mathlib.Core.Path.{sym, ap, _∙_}
-use Rattle.fields.specs.Fields.{placed}
-use Rattle.fields.specs.FieldLaws.{declared-test}
-use Rattle.fields.specs.Fields.{placed}
-use Rattle.fields.specs.FieldLaws.{declared-test}
 use Rattle.fields.specs.Fields.{placed}
 use Rattle.fields.specs.FieldLaws.{declared-test, name-bad, name-good}
 use Rattle.tables.specs.Names.{placeOf, rows}
-use Rattle.tables.specs.Names.{rows}
 use Rattle.fields.proofs.read_name.Statement.{statement}
 use Rattle.fields.proofs.read_name.Tie as tie
 

@@ -3,15 +3,11 @@ use Prim.Native.Nat.{_+_, _-_, _≤_}
 use borrow.Author.Needs.{needs}
 use lib.ListN.{length}
 use mathlib.Core.Path.{refl, sym, ap, _∙_, subst⁻¹}
-use mathlib.Core.Path.{refl, sym, ap, _∙_}
 use native.Mathlib.Omega.{arith}
 use Rattle.fields.specs.FieldLaws.{fault-undeclared, fault-malformed, fault-none, at-place, few-rows}
-use Rattle.fields.specs.FieldLaws.{fault-undeclared, fault-malformed, fault-none}
 use Rattle.fields.specs.Sets.{Walked, walked-start, walk-malformed, walk-undeclared, walk-repeated, walk-next, walk-last, empty-set}
 use Rattle.roles.specs.Sets.{hasRole, withOf}
 use Rattle.tables.specs.Names.{rows}
-use Rattle.tables.specs.Names.{rows}
-use Rattle.text.specs.PieceLaws.{sought-cut, sought-some, sought-last}
 use Rattle.text.specs.PieceLaws.{sought-cut, sought-some, sought-last}
 use Rattle.fields.proofs.read_set.Statement.{statement}
 use Rattle.fields.proofs.read_set.Tie as tie

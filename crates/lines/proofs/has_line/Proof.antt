@@ -1,7 +1,6 @@
 -- `has_line` is judged by the order and by the fault of both names together.
 use borrow.Author.Needs.{needs}
 use Rattle.fields.specs.FieldLaws.{worse}
-use Rattle.fields.specs.FieldLaws.{worse}
 use Rattle.lines.specs.LineLaws.{has-judged}
 use Rattle.lines.proofs.has_line.Statement.{statement}
 use Rattle.lines.proofs.has_line.Tie as tie

@@ -1,6 +1,5 @@
 -- `in_turn` goes by the three flags, one after the other.
 use borrow.Author.Tests.{not-true, not-false}
-use borrow.Author.Tests.{not-true, not-false}
 use Rattle.lines.specs.Lines.{comesTo, tests}
 use Rattle.walking.specs.Turns.{inTurn}
 use Rattle.lines.proofs.in_turn.Statement.{statement}

@@ -6,7 +6,6 @@ use mathlib.Core.Path.{_≡_}
 use native.Mathlib.Nat.{sub-zero, zero-add}
 use Rattle.tables.specs.Names.{placeOf, rows}
 use Rattle.tables.specs.NameLaws.{place-found, place-passed, place-none}
-use Rattle.tables.specs.Names.{placeOf, rows}
 use Rattle.tables.proofs.find.Statement.{statement}
 use Rattle.tables.proofs.find.Tie as tie
 

@@ -3,17 +3,11 @@ use Prim.Native.Nat.{_-_, _^_, _≤_, _<_}
 use borrow.Author.Needs.{needs}
 use lib.Dec.{lit≤}
 use lib.ListN.{length, drop, getD}
-use lib.ListN.{length, drop}
 use mathlib.Core.Path.{_≡_, sym}
-use mathlib.Core.Path.{_≡_, sym}
-use native.Mathlib.Nat.{le-refl}
-use native.Mathlib.Nat.{one-le-pow, le-refl}
-use native.Mathlib.Nat.{one-le-pow}
+use native.Mathlib.Nat.{le-refl, one-le-pow}
 use native.Mathlib.Omega.{arith}
 use Rattle.tables.specs.Names.{value}
 use Rattle.tables.specs.NameLaws.{value-end, word-bound, word-fits, word-next}
-use Rattle.tables.specs.Names.{value}
-use Rattle.tables.specs.NameLaws.{value-end, word-next, word-fits}
 use Rattle.tables.proofs.word.Statement.{statement}
 use Rattle.tables.proofs.word.Tie as tie
 

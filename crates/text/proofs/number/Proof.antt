@@ -1,15 +1,12 @@
 -- `number` goes through the digits: the number written is what the passed digits write, followed by what is left.
 use Prim.Native.Nat.{_-_, _^_, _≤_, _<_}
-use Prim.Native.Nat.{_-_, _^_, _≤_, _<_}
 use borrow.Author.Needs.{needs}
 use lib.Dec.{lit<}
-use lib.ListN.{length, drop}
 use lib.ListN.{length, drop}
 use mathlib.Core.Path.{_≡_, sym, _∙_, refl}
 use native.Mathlib.Omega.{arith}
 use Rattle.text.specs.Forms.{every, between, decimal}
 use Rattle.text.specs.FormLaws.{number-short, number-long, number-zero, number-bad, number-good, digit-low, digit-high, digit-good, every-bad, every-good, every-end, decimal-next, decimal-end, digits-next, digits-few}
-use Rattle.text.specs.Forms.{every, between, decimal}
 use Rattle.text.proofs.number.Statement.{statement}
 use Rattle.text.proofs.number.Tie as tie
 
