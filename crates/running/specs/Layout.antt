@@ -11,7 +11,7 @@ use Rattle.tables.specs.Names.{rows}
 use Rattle.reading.specs.declared.directory.Directory.{Directory}
 use Rattle.reading.specs.declared.policy.Rules.{Rules}
 use Rattle.walking.specs.Texts.{Reading, read, refused}
-use Rattle.reading.specs.Policy.{Said, countsOf, policyOf}
+use Rattle.reading.specs.Policy.{Said, countsOf, policyOf, sayRoles}
 use Rattle.reading.specs.Rules.{laidWith, laidOut}
 use Rattle.reading.specs.Told.{Recorded, users-laid, people-laid, tables-laid}
 use Rattle.traces.specs.TraceText.{Traced, readTrace}
@@ -52,7 +52,7 @@ saidOf p = record {
 
 -- a policy without its role names
 unnamed : Said → Said
-unnamed s = record { stage = s .stage; roles = []; users = s .users; holdings = s .holdings; assigns = s .assigns; revokes = s .revokes; goals = s .goals }
+unnamed s = sayRoles [] s
 
 unnamed-verdict : (s : Said) (text : List ℕ) → traceVerdict (unnamed s) text ≡ traceVerdict s text
 unfolding unnamed policyOf traceVerdict readVerdict
