@@ -1,7 +1,9 @@
 -- What a policy text is read into, and when it is refused.
 pub mod Policy
+pub mod Ledger
 pub mod Answer
 pub mod Sound
+pub mod LedgerLaws
 pub mod Directory
 pub mod Rules
 pub mod PolicyRefusals

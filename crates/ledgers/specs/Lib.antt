@@ -1,0 +1,5 @@
+-- Policies laid out in words.
+pub mod Parts
+pub mod PartLaws
+pub mod Ledger
+pub mod LedgerLaws
