@@ -1,11 +1,11 @@
 -- Each part of a ledger is faithful: a row says what it was made of.
-use Prim.Native.Nat.{ℕ, zero, suc, _+_, _*_, _≤_, _<_}
+use Prim.Native.Nat.{ℕ, zero, suc, _+_, _-_, _*_, _≤_, _<_}
 use mathlib.Core.Bool.{Bool, true, false}
 use mathlib.Core.List.{List, _∷_}
 use mathlib.Core.Path.{_≡_, refl, ap, ap₂, _∙_}
 use lib.Dec.{eqb}
-use lib.ListN.{length, getD, drop}
-use lib.Seq.{sets, getD-drop, drop-drop}
+use lib.ListN.{length, getD, take, drop, length-drop}
+use lib.Seq.{sets, getD-drop, drop-drop, take-all}
 use mir.Val.{boolByte}
 use native.Mathlib.Nat.{add-zero}
 use native.Mathlib.Omega.{arith}
@@ -52,6 +52,10 @@ roles-faithful = names-faithful 0
 
 pub users-faithful : Faithful userNames
 users-faithful = names-faithful 512
+
+-- so is the part of a ledger from there on, as it is lent
+pub users-lent : (words : List ℕ) (count : ℕ) → rows count (take (length words - 512) (drop 512 words)) ≡ rowsIn userNames words count
+users-lent words count = ap (rows count) (take-all (length words - 512) (drop 512 words) (omega (arith, length-drop 512 words))) ∙ users-rows words count
 
 -- a clearance is told by its word
 cleared : (b : Bool) → eqb (boolByte b) 1 ≡ b

@@ -29,6 +29,8 @@ pub const REVOKE: usize = 60;
 
 pub const GOAL: usize = 70;
 
+pub const END: usize = 80;
+
 // How far a policy was read: the kind of the last line, 0 before the header, and how many of each kind there are.
 pub struct Counts {
     pub stage: usize,

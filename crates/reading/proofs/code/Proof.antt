@@ -2,8 +2,8 @@
 use borrow.Author.Needs.{needs}
 use mathlib.Core.Path.{sym, ap}
 use Rattle.lines.specs.Lines.{codeOf}
-use Rattle.reading.proofs.directory.code.Statement.{statement}
-use Rattle.reading.proofs.directory.code.Tie as tie
+use Rattle.reading.proofs.code.Statement.{statement}
+use Rattle.reading.proofs.code.Tie as tie
 
 enum-told : tie.Need-enum-told
 enum-told c = search needs
