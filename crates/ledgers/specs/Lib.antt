@@ -3,3 +3,5 @@ pub mod Parts
 pub mod PartLaws
 pub mod Ledger
 pub mod LedgerLaws
+pub mod Memory
+pub mod MemoryLaws
