@@ -1,38 +1,77 @@
--- The first element that fails: what each turn of a loop over the counted elements of an array adds to the answer.
-use Prim.Native.Nat.{ℕ, _+_, _≤_, _<_, zero-le}
+-- The first row of a ledger's part that fails: each part's rows and their test, and what each turn of a loop over them adds to the answer.
+use Prim.Native.Nat.{ℕ, suc, _+_, _-_, _≤_, _<_, zero-le}
 use mathlib.Core.Bool.{Bool, true, false, not}
 use mathlib.Core.List.{List}
-use mathlib.Core.Path.{_≡_, sym, ap, _∙_}
-use lib.ListN.{length, getD, take, drop}
+use mathlib.Core.Path.{_≡_, sym, _∙_}
+use native.Mathlib.Nat.{sub-zero}
+use native.Mathlib.Numerals.{add-one}
 use native.Mathlib.Omega.{arith}
-use Rattle.steps.specs.First.{firstFrom, first, from-here, from-next, from-end}
+use Rattle.roles.specs.declared.RoleSet.{RoleSet}
+use Rattle.model.specs.declared.Assign.{Assign}
+use Rattle.model.specs.declared.Revoke.{Revoke}
+use Rattle.model.specs.declared.Person.{Person}
+use Rattle.ledgers.specs.Parts as ledgers
+use Rattle.ledgers.specs.Parts.{rowAt, rowsFrom, rowsIn}
+use Rattle.ledgers.specs.Ledger.{people, assignRules, revokeRules, goalSets}
+use Rattle.sheets.specs.Turned.{Turned}
+use Rattle.rules.specs.Tests.{personPasses, assignPasses, revokePasses, goalPasses}
+use Rattle.steps.specs.First.{firstFrom, first}
+use Rattle.judging.specs.declared.Part.{Part}
 use Rattle.judging.specs.Verdict.{firstFailing}
 
--- After i turns the answer for the elements that are counted is the answer for those still to come.
-pub record Looked {A : Type 0} (test : A → Bool) (xs : List A) (count answer i : ℕ) : Type 0 where
-  pub reached : i ≤ count
-  pub room : count ≤ length xs
-  pub left : answer ≡ firstFrom (λ x. not (test x)) i (drop i (take count xs))
+-- What a row says, where the rows stand, for how many there is room, and the test of one by what a typing says.
+pub record Rows : Type 1 where
+  pub Row : Type 0
+  pub rows : ledgers.Part Row
+  pub room : ℕ
+  pub passes : Turned → Row → Bool
+
+-- The rows of each part.
+abbrev pub rowsOf : Part → Rows
+rowsOf Part.Holdings = record { Row = Person; rows = people; room = 64; passes = personPasses }
+rowsOf Part.Assign = record { Row = Assign; rows = assignRules; room = 256; passes = assignPasses }
+rowsOf Part.Revoke = record { Row = Revoke; rows = revokeRules; room = 256; passes = revokePasses }
+rowsOf Part.Goal = record { Row = RoleSet; rows = goalSets; room = 32; passes = goalPasses }
+
+-- Whether the row at a place passes.
+abbrev pub rowPasses : Part → Turned → List ℕ → ℕ → Bool
+rowPasses part said words place = rowsOf part .passes said (rowAt (rowsOf part .rows) words place)
+
+-- The number, from 1, of the first row that fails; 0 where all pass.
+abbrev pub firstRow : Part → Turned → List ℕ → ℕ → ℕ
+firstRow part said words count = firstFailing (rowsOf part .passes said) (rowsIn (rowsOf part .rows) words count)
+
+-- ---- going by places through the rows
+
+-- The answer is that of the rows from a place on.
+pub record Looked (part : Part) (said : Turned) (words : List ℕ) (count answer place : ℕ) : Type 0 where
+  pub reached : place ≤ count
+  pub left : answer ≡ firstFrom (λ row. not (rowsOf part .passes said row)) place (rowsFrom (rowsOf part .rows) words place (count - place))
 
 -- before the first turn
-pub looked-start : {A : Type 0} {test : A → Bool} {xs : List A} {count counted : ℕ} → count ≡ counted → count ≤ length xs → Looked test xs count (firstFailing test (take counted xs)) 0
-unfolding firstFailing first
-looked-start same room = record { reached = zero-le; room = room; left = rw same }
+pub looked-start : (part : Part) (said : Turned) (words : List ℕ) (count : ℕ) → Looked part said words count (firstRow part said words count) 0
+unfolding firstFailing first rowsIn
+looked-start part said words count = record { reached = zero-le; left = rw sub-zero }
 
-module _ {A : Type 0} {test : A → Bool} {xs : List A} {count answer i : ℕ} (so-far : Looked test xs count answer i) where
-  -- no element is left
-  pub looked-end : count ≤ i → 0 ≡ answer
-  looked-end all = sym (so-far .left ∙ from-end (λ x. not (test x)) xs count i (omega arith))
+module _ {part : Part} {said : Turned} {words : List ℕ} {count answer place : ℕ} (so-far : Looked part said words count answer place) where
+  -- no row is left
+  pub looked-end : count ≤ place → 0 ≡ answer
+  unfolding firstFrom rowsFrom
+  looked-end all =
+      let none : count - place ≡ 0 = omega arith in
+      sym (rw none at (so-far .left))
 
-  module _ (here : i < count) {passes : Bool} (past : A) (is : passes ≡ test (getD xs i past)) where
-    -- the next element fails
-    pub looked-fails : not passes ≡ true → i + 1 ≡ answer
-    looked-fails fails = sym (so-far .left ∙ from-here (λ x. not (test x)) xs count i past (omega (arith, so-far .room)) (ap not (sym is) ∙ fails))
+  module _ (here : place < count) {passes : Bool} (is : passes ≡ rowPasses part said words place) where
+    -- the row at the place is left, and those after it
+    more : count - place ≡ suc (count - (place + 1))
+    more = omega arith
+
+    -- it fails
+    pub looked-fails : not passes ≡ true → place + 1 ≡ answer
+    unfolding firstFrom rowsFrom
+    looked-fails fails = add-one place ∙ sym (rw (more, ← is, fails) at (so-far .left))
 
     -- it passes
-    pub looked-passes : not passes ≡ false → Looked test xs count answer (i + 1)
-    looked-passes ok = record {
-      reached = omega arith;
-      room = so-far .room;
-      left = so-far .left ∙ from-next (λ x. not (test x)) xs count i past (omega (arith, so-far .room)) (ap not (sym is) ∙ ok);
-    }
+    pub looked-passes : not passes ≡ false → Looked part said words count answer (place + 1)
+    unfolding firstFrom rowsFrom
+    looked-passes ok = record { reached = omega arith; left = rw (more, ← is, ok, ← add-one place) at (so-far .left) }

@@ -4,6 +4,5 @@ pub mod First
 pub mod Failures
 pub mod Failing
 pub mod Order
-pub mod Layout
 pub mod TypingVerdictExact
 pub mod Pinned

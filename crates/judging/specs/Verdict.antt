@@ -2,16 +2,14 @@
 use Prim.Native.Nat.{ℕ, zero, suc, _+_, min}
 use mathlib.Core.Bool.{Bool, not}
 use mathlib.Core.List.{List}
-use lib.ListN.{length, take}
+use lib.ListN.{length}
 use Rattle.roles.specs.Sets.{sizeOf}
-use Rattle.model.specs.declared.Person.{Person}
 use Rattle.model.specs.declared.Typing.{Typing as Table}
 use Rattle.model.specs.Policy.{Policy, State}
 use Rattle.model.specs.Typing.{Typing}
 use Rattle.model.specs.Meaning.{meaning}
 use Rattle.sheets.specs.Turned.{Turned, turnedOf}
 use Rattle.rules.specs.Tests.{personPasses, assignPasses, revokePasses, goalPasses}
-use Rattle.reading.specs.declared.policy.Rules.{Rules}
 use Rattle.reading.specs.Policy.{Said, policyOf}
 use Rattle.steps.specs.First.{first}
 use Rattle.judging.specs.declared.Part.{Part}
@@ -33,18 +31,6 @@ pub record Subject : Type 0 where
 
 unfoldable pub subjectOf : Said → Subject
 subjectOf s = record { roles = length (s .roles); holdings = s .holdings; policy = policyOf s }
-
--- Of rules and goals in arrays: as many elements of each array as its count says, and at most all of them.
-unfoldable pub policyIn : Rules → Policy
-policyIn p = record {
-  assigns = take (min (p .counts .assigns) 256) (p .assigns);
-  revokes = take (min (p .counts .revokes) 256) (p .revokes);
-  goals = take (min (p .counts .goals) 32) (p .goals);
-}
-
--- Of people and rules in arrays, likewise.
-unfoldable pub subjectIn : List Person → Rules → Subject
-subjectIn persons p = record { roles = p .counts .roles; holdings = take (min (p .counts .users) 64) persons; policy = policyIn p }
 
 -- ---- the verdict
 

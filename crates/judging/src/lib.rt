@@ -1,16 +1,15 @@
 // The verdict on a typing: holdings, assign rules, revoke rules and goals in this order, and the first that fails.
 ghost use mathlib.Core.Path.{_≡_};
-ghost use Prim.Native.Nat.{min};
-ghost use lib.ListN.{take};
+ghost use Prim.Native.Nat.{_≤_, _<_};
+ghost use lib.ListN.{length};
+ghost use Rattle.ledgers.specs.Ledger.{ledgerWords};
+ghost use Rattle.reading.specs.Policy.{policyOf};
+ghost use Rattle.reading.specs.Ledger.{ledgerSays, Limited};
 ghost use Rattle.sheets.specs.Words.{saidIn};
-ghost use Rattle.rules.specs.Tests.{personPasses, assignPasses, revokePasses, goalPasses};
-ghost use Rattle.judging.specs.Verdict.{firstFailing, policyIn, subjectIn, failingPart, rulesSaid, judgedRules, judgedTyping, partNumber, pinnedNames};
-use model::Assign;
-use model::Person;
-use model::Revoke;
+ghost use Rattle.judging.specs.Verdict.{failingPart, rulesSaid, rulesVerdict, typingVerdict, partNumber, pinnedNames};
+ghost use Rattle.judging.specs.First.{rowsOf, rowPasses, firstRow};
+use lines::Counts;
 use model::Typing;
-use reading::policy::Rules;
-use roles::RoleSet;
 use roles::smaller;
 use sheets::lay_out;
 
@@ -40,66 +39,30 @@ pub fn part_number(part: Part) -> u64
     }
 }
 
-// The number, from 1, of the first user whose holdings fail; 0 where all pass.
-fn first_holding(persons: [Person; 64], count: usize, sheet: &[u64; 1026]) -> usize
-    ensures { λ r. ⌜ r ≡ firstFailing (personPasses (saidIn (now (sheet .entry)))) (take (min count 64) persons) ⌝ }
+// Whether the row of a part at a place passes.
+fn passes(part: Part, ledger: &[u64], place: usize, sheet: &[u64; 1026]) -> bool
+    requires { ⌜ (ledgerWords ≤ length (now ledger)) × (place < rowsOf part .room) ⌝ }
+    ensures { λ r. ⌜ r ≡ rowPasses part (saidIn (now (sheet .entry))) (now (ledger .entry)) place ⌝ }
 {
-    let end = smaller(count, 64);
-    let mut number = 0;
-    while number < end {
-        let next = persons[number];
-        number += 1;
-        if !rules::person_passes(sheet, next) {
-            return number;
-        }
+    match part {
+        Part::Holdings => rules::person_passes(sheet, ledgers::person(ledger, place)),
+        Part::Assign => rules::assign_passes(sheet, ledgers::assign(ledger, place)),
+        Part::Revoke => rules::revoke_passes(sheet, ledgers::revoke(ledger, place)),
+        Part::Goal => rules::goal_passes(sheet, ledgers::goal(ledger, place)),
     }
-    0
 }
 
-// The number, from 1, of the first assign rule that fails; 0 where all pass.
-fn first_assign(assigns: [Assign; 256], count: usize, sheet: &[u64; 1026]) -> usize
-    ensures { λ r. ⌜ r ≡ firstFailing (assignPasses (saidIn (now (sheet .entry)))) (take (min count 256) assigns) ⌝ }
+// The number, from 1, of the first row of a part that fails; 0 where all pass.
+fn first_failing(part: Part, ledger: &[u64], count: usize, sheet: &[u64; 1026]) -> usize
+    requires { ⌜ (ledgerWords ≤ length (now ledger)) × (count ≤ rowsOf part .room) ⌝ }
+    ensures { λ r. ⌜ r ≡ firstRow part (saidIn (now (sheet .entry))) (now (ledger .entry)) count ⌝ }
 {
-    let end = smaller(count, 256);
-    let mut number = 0;
-    while number < end {
-        let next = assigns[number];
-        number += 1;
-        if !rules::assign_passes(sheet, next) {
-            return number;
+    let mut place = 0;
+    while place < count {
+        if !passes(part, ledger, place, sheet) {
+            return place + 1;
         }
-    }
-    0
-}
-
-// The number, from 1, of the first revoke rule that fails; 0 where all pass.
-fn first_revoke(revokes: [Revoke; 256], count: usize, sheet: &[u64; 1026]) -> usize
-    ensures { λ r. ⌜ r ≡ firstFailing (revokePasses (saidIn (now (sheet .entry)))) (take (min count 256) revokes) ⌝ }
-{
-    let end = smaller(count, 256);
-    let mut number = 0;
-    while number < end {
-        let next = revokes[number];
-        number += 1;
-        if !rules::revoke_passes(sheet, next) {
-            return number;
-        }
-    }
-    0
-}
-
-// The number, from 1, of the first goal that fails; 0 where all pass.
-fn first_goal(goals: [RoleSet; 32], count: usize, sheet: &[u64; 1026]) -> usize
-    ensures { λ r. ⌜ r ≡ firstFailing (goalPasses (saidIn (now (sheet .entry)))) (take (min count 32) goals) ⌝ }
-{
-    let end = smaller(count, 32);
-    let mut number = 0;
-    while number < end {
-        let next = goals[number];
-        number += 1;
-        if !rules::goal_passes(sheet, next) {
-            return number;
-        }
+        place += 1;
     }
     0
 }
@@ -114,44 +77,46 @@ fn failing(part: Part, number: usize) -> TypingVerdict
     TypingVerdict::Fails(part, number)
 }
 
-// The verdict on the rules alone, by the typing's sheet: assign rules, then revoke rules.
-fn rules_verdict(p: Rules, sheet: &[u64; 1026]) -> TypingVerdict
-    ensures { λ r. ⌜ r ≡ rulesSaid (policyIn p) (saidIn (now (sheet .entry))) ⌝ }
+// The verdict on the rules of a ledger alone, by the typing's sheet: assign rules, then revoke rules.
+fn rules_verdict(ledger: &[u64], c: Counts, sheet: &[u64; 1026]) -> TypingVerdict
+    requires { ⌜ (ledgerWords ≤ length (now ledger)) × Limited c ⌝ }
+    ensures { λ r. ⌜ r ≡ rulesSaid (policyOf (ledgerSays (now (ledger .entry)) c)) (saidIn (now (sheet .entry))) ⌝ }
 {
-    let assigns = p.assigns;
-    let revokes = p.revokes;
-    let first = first_assign(assigns, p.counts.assigns, sheet);
-    let verdict = failing(Part::Assign, first);
+    let assign = first_failing(Part::Assign, ledger, c.assigns, sheet);
+    let verdict = failing(Part::Assign, assign);
     let TypingVerdict::Accepted = verdict else {
         return verdict;
     };
-    failing(Part::Revoke, first_revoke(revokes, p.counts.revokes, sheet))
+    let revoke = first_failing(Part::Revoke, ledger, c.revokes, sheet);
+    failing(Part::Revoke, revoke)
 }
 
-// The verdict on the rules alone: assign rules, then revoke rules.
-pub fn judge_rules(p: Rules, t: Typing) -> TypingVerdict
-    ensures { λ r. ⌜ r ≡ judgedRules (p .counts .roles) (policyIn p) t ⌝ }
+// The verdict of a typing on the rules of a ledger alone: assign rules, then revoke rules.
+pub fn judge_rules(ledger: &[u64], c: Counts, t: Typing) -> TypingVerdict
+    requires { ⌜ (ledgerWords ≤ length (now ledger)) × Limited c ⌝ }
+    ensures { λ r. ⌜ r ≡ rulesVerdict (ledgerSays (now (ledger .entry)) c) t ⌝ }
 {
-    let sheet = lay_out(t, p.counts.roles);
-    rules_verdict(p, &sheet)
+    let sheet = lay_out(t, c.roles);
+    rules_verdict(ledger, c, &sheet)
 }
 
-// The verdict on a typing, of people with their roles and of rules and goals: holdings, assign rules, revoke rules, then goals.
-pub fn judge_typing(persons: [Person; 64], p: Rules, t: Typing) -> TypingVerdict
-    ensures { λ r. ⌜ r ≡ judgedTyping (subjectIn persons p) t ⌝ }
+// The verdict of a typing on all that a ledger says: holdings, assign rules, revoke rules, then goals.
+pub fn judge_typing(ledger: &[u64], c: Counts, t: Typing) -> TypingVerdict
+    requires { ⌜ (ledgerWords ≤ length (now ledger)) × Limited c ⌝ }
+    ensures { λ r. ⌜ r ≡ typingVerdict (ledgerSays (now (ledger .entry)) c) t ⌝ }
 {
-    let sheet = lay_out(t, p.counts.roles);
-    let goals = p.goals;
-    let first = first_holding(persons, p.counts.users, &sheet);
-    let holdings = failing(Part::Holdings, first);
+    let sheet = lay_out(t, c.roles);
+    let user = first_failing(Part::Holdings, ledger, c.users, &sheet);
+    let holdings = failing(Part::Holdings, user);
     let TypingVerdict::Accepted = holdings else {
         return holdings;
     };
-    let rules = rules_verdict(p, &sheet);
+    let rules = rules_verdict(ledger, c, &sheet);
     let TypingVerdict::Accepted = rules else {
         return rules;
     };
-    failing(Part::Goal, first_goal(goals, p.counts.goals, &sheet))
+    let goal = first_failing(Part::Goal, ledger, c.goals, &sheet);
+    failing(Part::Goal, goal)
 }
 
 // How many names stand in all plus and minus sets of the roles.
