@@ -1,9 +1,10 @@
 -- The user of an answer as it is told, and how a number and values are told in a lent array, with room and without.
 use Prim.Native.Nat.{ℕ, _≤_, _<_}
 use borrow.Author.Tests.{lt-leb, le-leb}
-use mathlib.Core.Bool.{Bool, cond}
+use mathlib.Core.Bool.{Bool, true, false, cond}
 use mathlib.Core.List.{List}
 use mathlib.Core.Path.{_≡_, refl, sym, ap, _∙_}
+use lib.Dec.{ltb}
 use lib.ListN.{length}
 use native.Mathlib.Omega.{arith}
 use Rattle.model.specs.Policy.{State, Run, Present}
@@ -11,6 +12,8 @@ use Rattle.model.specs.Policy as model
 use Rattle.model.specs.States.{present-back}
 use Rattle.reading.specs.Sound.{read-sound}
 use Rattle.following.specs.FollowsExact.{follows-run}
+use Rattle.ledgers.specs.Memory.{noMemory, inMemory}
+use Rattle.ledgers.specs.MemoryLaws.{memory-short, memory-enough}
 use Rattle.writing.specs.Written.{put}
 use Rattle.summing.specs.Outcome.{Outcome, answerIn, bufferAfter, Meets}
 use Rattle.answering.specs.declared.Answer.{Answer}
@@ -18,7 +21,7 @@ use Rattle.answering.specs.Answers.{answerOf}
 use Rattle.answering.specs.AnswerExact.{attacked-exact}
 use Rattle.telling.specs.Numbers.{Told, UserListed}
 use Rattle.telling.specs.NumberLaws.{known-told}
-use Rattle.arbac.specs.Face.{noRoom, roomFor, toldNumber, toldIn, bufferTold}
+use Rattle.arbac.specs.Face.{noRoom, roomFor, toldNumber, toldIn, bufferTold, lentNumber, lentIn, bufferLent}
 
 -- ---- the user of ATTACKED
 
@@ -75,3 +78,26 @@ module _ {A : Type 0} (numberOf : A → ℕ) (valuesOf : A → List ℕ) (width 
   with-room-outcome room met t =
       let all = with-room width room (told-as numberOf valuesOf (met .answered) t) in
       (all .0, (all .1, met .left ∙ sym (ap (λ (b : Bool). cond b (bufferAfter outcome buffer) buffer) (le-leb width (length array) room))))
+
+-- ---- in lent memory
+
+-- an array without room: nothing is told, whatever the memory
+pub no-room-lent : (needed width number : ℕ) (values memory array : List ℕ) → length array < width → (noRoom ≡ lentNumber needed width number memory array) × (array ≡ lentIn needed width values memory array)
+unfolding lentNumber lentIn inMemory
+no-room-lent needed width number values memory array short = (no-room width _ values array short .0, go (ltb (length memory) needed))
+  where
+    go : (b : Bool) → array ≡ cond b array (toldIn width values array)
+    go true = refl
+    go false = no-room width number values array short .1
+
+-- too few words: 254, and nothing is told
+pub few-lent : (needed width number : ℕ) (values memory array : List ℕ) → width ≤ length array → length memory < needed → (noMemory ≡ lentNumber needed width number memory array) × (array ≡ lentIn needed width values memory array)
+unfolding lentNumber lentIn toldNumber roomFor
+few-lent needed width number values memory array room few =
+    (rw (memory-short needed (length memory) noMemory number few, le-leb width (length array) room), sym (memory-short needed (length memory) array (toldIn width values array) few))
+
+-- enough of both: as in memory of its own
+pub enough-lent : (needed width number : ℕ) (values memory array : List ℕ) → needed ≤ length memory → (toldNumber width number array ≡ lentNumber needed width number memory array) × (toldIn width values array ≡ lentIn needed width values memory array)
+unfolding lentNumber lentIn
+enough-lent needed width number values memory array enough =
+    (sym (ap (λ (n : ℕ). toldNumber width n array) (memory-enough needed (length memory) noMemory number enough)), sym (memory-enough needed (length memory) array (toldIn width values array) enough))

@@ -12,10 +12,9 @@ use Rattle.tables.specs.declared.Name.{Name}
 use Rattle.text.specs.Pieces.{part, Sought}
 use Rattle.walking.specs.Texts.{Reading, read, refused}
 use Rattle.tables.specs.Names.{rows}
-use Rattle.reading.specs.declared.directory.Directory.{Directory}
-use Rattle.reading.specs.declared.policy.Rules.{Rules}
+use Rattle.lines.specs.declared.Counts.{Counts}
 use Rattle.reading.specs.Policy.{Said, readPolicy}
-use Rattle.reading.specs.Told.{Told, roles-laid}
+use Rattle.reading.specs.Told.{Told, roles-told}
 use Rattle.typings.specs.declared.TypingRead.{TypingRead}
 use Rattle.places.specs.declared.Refusal.{Refusal}
 use Rattle.places.specs.declared.Span.{Span}
@@ -40,19 +39,19 @@ pub typing-refused : (policy typing : List ℕ) {s : Said} {number line : ℕ} �
 unfolding told
 typing-refused policy typing reads is = sym (after-read true policy typing reads) ∙ ap told is
 
--- as the record of its reader has it, over the records of a policy that is read
+-- as the record of its reader has it, over a policy that is read
 typing-told : (r : Reading Typed) → record { number = answerOf r .refusal; line = answerOf r .line } ≡ told r
 unfolding answerOf refusedTyping told
 typing-told (read s) = refl
 typing-told (refused k n) = refl
 
-pub over-told : {policy : List ℕ} {D : Directory} {R : Rules} → Told policy D R → (typing : List ℕ) {T : TypingRead} → T ≡ typingRead (rows (R .counts .roles) (D .roles)) typing
+pub over-told : {policy : List ℕ} {c : Counts} {words : List ℕ} → Told policy c words → (typing : List ℕ) {T : TypingRead} → T ≡ typingRead (rows (c .roles) words) typing
     → record { number = T .refusal; line = T .line } ≡ typingRefusalOf policy typing
 unfolding typingRead
-over-told {policy} {D} {R} t typing given =
+over-told {policy} {c} {words} t typing given =
     (λ i. record { number = given i .refusal; line = given i .line })
-    ∙ typing-told (readTyping (rows (R .counts .roles) (D .roles)) typing)
-    ∙ ap (λ (names : List Name). told (readTyping names typing)) (roles-laid (t .laid))
+    ∙ typing-told (readTyping (rows (c .roles) words) typing)
+    ∙ ap (λ (names : List Name). told (readTyping names typing)) (roles-told t)
     ∙ after-read true policy typing (t .is)
 
 -- ---- going from line to line
