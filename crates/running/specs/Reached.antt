@@ -3,8 +3,7 @@ use Prim.Native.Nat.{ℕ, zero, suc, _+_, _-_, _≤_, _<_, zero-le}
 use mathlib.Core.Bool.{Bool, true, false, cond}
 use mathlib.Core.List.{List, [], _∷_, _++_}
 use mathlib.Core.Path.{_≡_, refl, sym, ap, subst, _∙_}
-use lib.ListN.{length, drop, length-append, length-drop}
-use lib.Seq.{take-all}
+use lib.ListN.{length, length-append}
 use native.Mathlib.Numerals.{add-one}
 use native.Mathlib.Omega.{arith}
 use Rattle.roles.specs.declared.RoleSet.{RoleSet}
@@ -14,7 +13,7 @@ use Rattle.tables.specs.NameLaws as names
 use Rattle.ledgers.specs.Parts.{rowsIn}
 use Rattle.ledgers.specs.PartLaws.{rows-length}
 use Rattle.ledgers.specs.Ledger.{people, assignRules, revokeRules, goalSets}
-use Rattle.ledgers.specs.LedgerLaws.{users-rows}
+use Rattle.ledgers.specs.LedgerLaws.{users-lent}
 use Rattle.text.specs.Forms.{bytes}
 use Rattle.text.specs.Pieces.{part, sameBytes, Sought}
 use Rattle.text.specs.Begins.{begins}
@@ -91,7 +90,7 @@ module _ {s : Said} {c : Counts} {text : List ℕ} {at number steps stopped : �
   given-said =
       let assigns : c .assigns ≡ length (s .assigns) = sym (rows-length assignRules words (c .assigns)) ∙ ap (λ (t : Said). length (t .assigns)) (r .says) in
       let revokes : c .revokes ≡ length (s .revokes) = sym (rows-length revokeRules words (c .revokes)) ∙ ap (λ (t : Said). length (t .revokes)) (r .says) in
-      let users : rows (c .users) (part words 512 (length words)) ≡ s .users = ap (rows (c .users)) (take-all (length words - 512) (drop 512 words) (omega (arith, length-drop 512 words))) ∙ users-rows words (c .users) ∙ ap (λ (t : Said). t .users) (r .says) in
+      let users : rows (c .users) (part words 512 (length words)) ≡ s .users = users-lent words (c .users) ∙ ap (λ (t : Said). t .users) (r .says) in
       l .given ∙ (λ i. traceLine (assigns i) (revokes i) (users i) (part text at stop))
 
   -- a bad line

@@ -45,6 +45,7 @@ fn ending(broken: usize, steps: usize, found: Found) -> TraceVerdict
 pub fn run_trace(text: &[u8], ledger: &mut [u64], c: Counts) -> TraceVerdict
     requires { ⌜ (ledgerWords ≤ length (now ledger)) × Limited c ⌝ }
     ensures { λ r. ⌜ r ≡ traceVerdict (ledgerSays (now (ledger .entry)) c) (now (text .entry)) ⌝ }
+    ensures { λ _. ⌜ ledgerSays (now (ledger .exit)) c .users ≡ ledgerSays (now (ledger .entry)) c .users ⌝ }
 {
     let end = text.len();
     if 32768 < end {
