@@ -10,6 +10,7 @@ ghost use Rattle.ledgers.specs.Memory.{inMemory, Spared};
 ghost use Rattle.writing.specs.Written.{spelled, decimal};
 ghost use Rattle.printing.specs.Line.{field, partText, lineOf, checkLine, shownLength, shown};
 ghost use Rattle.printing.specs.LineSteps.{Goes, Line};
+ghost use Rattle.printing.specs.LineTold.{NamedOver};
 ghost use Rattle.printing.specs.Program.{programLine};
 ghost use Rattle.printing.specs.Showing.{Shows};
 ghost use Rattle.answering.specs.declared.Answer.{Answer};
@@ -155,6 +156,7 @@ fn show_line(line: &[u8], out: &mut [u8]) -> usize
 // Makes the line of an answer with the name of the user of whom it speaks, at the start of the buffer, and answers its length; 0
 // where the buffer is too short.
 fn show_answer(answer: Answer, name: Name, out: &mut [u8]) -> usize
+    requires { ⌜ NamedOver answer name ⌝ }
     ensures { λ r. ⌜ ((users : List Name) → name ≡ nameIn users answer → Shows (lineOf users answer) (now (out .entry)) r (now (out .exit))) ⌝ }
 {
     let mut line = [0u8; 128];
@@ -169,7 +171,9 @@ pub fn check_line(policy: &[u8], evidence: &[u8], out: &mut [u8]) -> usize
     ensures { λ r. ⌜ (r ≤ length (now (out .exit))) × (r ≡ length (take r (now (out .exit)))) ⌝ }
 {
     let named = named_answer(policy, evidence);
-    show_answer(named.answer, named.name, out)
+    let answer = named.answer;
+    let name = named.name;
+    show_answer(answer, name, out)
 }
 
 // The same in lent memory, of which a ledger's words are needed: with fewer, no line is made.
@@ -182,7 +186,9 @@ pub fn check_line_in(policy: &[u8], evidence: &[u8], out: &mut [u8], memory: &mu
         return 0;
     }
     let named = named_answer_in(policy, evidence, memory);
-    show_answer(named.answer, named.name, out)
+    let answer = named.answer;
+    let name = named.name;
+    show_answer(answer, name, out)
 }
 
 // Makes the line that the program `check` prints for two files, each with whether it could be read and its bytes, at the start of
