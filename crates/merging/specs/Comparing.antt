@@ -1,15 +1,20 @@
--- Two arrays compared element by element: what each turn adds to the answer; and a table of names compared word by word.
+-- Two lists compared element by element: what each turn adds to the answer; people row by row, and a table of names word by word.
 use Prim.Native.Nat.{ℕ, zero, suc, _+_, _*_, _≤_, _<_, zero-le}
 use mathlib.Core.Bool.{Bool, true, false, _&&_}
 use mathlib.Core.List.{List, [], _∷_}
 use mathlib.Core.Path.{_≡_, refl, sym, ap, ap₂, _∙_}
 use lib.Dec.{eqb}
 use lib.ListN.{length, getD, take, drop, length-drop}
-use lib.Seq.{slice, slice-empty, slice-cons}
+use lib.Seq.{slice, slice-empty, slice-cons, take-all}
 use native.Mathlib.Numerals.{add-one}
 use native.Mathlib.Omega.{arith}
+use Rattle.model.specs.declared.Person.{Person}
+use Rattle.model.specs.Policy.{nobody}
 use Rattle.tables.specs.Names.{sameName, rowOf, rows}
-use Rattle.merging.specs.Directory.{sameLists}
+use Rattle.ledgers.specs.Parts.{rowAt, rowsIn}
+use Rattle.ledgers.specs.PartLaws.{rows-at}
+use Rattle.ledgers.specs.Ledger.{people}
+use Rattle.merging.specs.Directory.{sameLists, samePerson}
 
 -- After i turns the answer for so many first elements is the answer for those still to come.
 pub record Compared {A : Type 0} (same : A → A → Bool) (xs ys : List A) (count : ℕ) (answer : Bool) (i : ℕ) : Type 0 where
@@ -22,6 +27,15 @@ module _ {A : Type 0} {same : A → A → Bool} {xs ys : List A} {count : ℕ} w
   -- before the first turn
   pub compared-start : count ≤ length xs → count ≤ length ys → Compared same xs ys count (sameLists same (take count xs) (take count ys)) 0
   compared-start room other = record { reached = zero-le; room = room; other = other; left = refl }
+
+  -- and of all elements
+  pub compared-all : length xs ≡ count → length ys ≡ count → Compared same xs ys count (sameLists same xs ys) 0
+  compared-all all others = record {
+    reached = zero-le;
+    room = omega arith;
+    other = omega arith;
+    left = sym (ap₂ (sameLists same) (take-all count xs (omega arith)) (take-all count ys (omega arith)));
+  }
 
   module _ {answer : Bool} {i : ℕ} (so-far : Compared same xs ys count answer i) where
     -- no element is left
@@ -51,6 +65,14 @@ module _ {A : Type 0} {same : A → A → Bool} {xs ys : List A} {count : ℕ} w
         other = so-far .other;
         left = next ∙ ap (λ (b : Bool). b && sameLists same (slice (i + 1) count xs) (slice (i + 1) count ys)) ok;
       }
+
+-- ---- the people of two ledgers
+
+-- Two people are compared as they stand in the rows.
+pub rows-alike : (one two : List ℕ) (count user : ℕ) → user < count → {p q : Person} → p ≡ rowAt people one user → q ≡ rowAt people two user → {alike : Bool} → alike ≡ samePerson p q
+    → alike ≡ samePerson (getD (rowsIn people one count) user nobody) (getD (rowsIn people two count) user nobody)
+rows-alike one two count user here p-is q-is is =
+    is ∙ ap₂ samePerson (p-is ∙ sym (rows-at people one count user nobody here)) (q-is ∙ sym (rows-at people two count user nobody here))
 
 -- ---- the words of a table of names
 

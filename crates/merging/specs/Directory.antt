@@ -2,11 +2,9 @@
 use mathlib.Core.Bool.{Bool, true, false, not, cond, _&&_}
 use mathlib.Core.List.{List, [], _∷_}
 use mathlib.Core.Path.{_≡_}
-use lib.ListN.{take}
 use Rattle.roles.specs.Sets.{sameSet}
 use Rattle.model.specs.declared.Person.{Person}
-use Rattle.tables.specs.Names.{sameName, rows}
-use Rattle.reading.specs.declared.directory.Directory.{Directory}
+use Rattle.tables.specs.Names.{sameName}
 use Rattle.reading.specs.Policy.{Said}
 
 -- two lists of the same length whose elements are the same, one by one
@@ -25,13 +23,6 @@ samePerson p q = sameLabel (p .clearance) (q .clearance) && sameSet (p .roles) (
 
 unfoldable pub sameDirectory : Said → Said → Bool
 sameDirectory s t = sameLists sameName (s .roles) (t .roles) && sameLists sameName (s .users) (t .users) && sameLists samePerson (s .holdings) (t .holdings)
-
--- Of directories in arrays: as many names of each table, and as many people, as the counts say.
-unfoldable pub sameTables : Directory → Directory → Bool
-sameTables d e =
-    sameLists sameName (rows (d .counts .roles) (d .roles)) (rows (e .counts .roles) (e .roles))
-    && sameLists sameName (rows (d .counts .users) (d .users)) (rows (e .counts .users) (e .users))
-    && sameLists samePerson (take (d .counts .users) (d .persons)) (take (e .counts .users) (e .persons))
 
 -- The same roles in order, the same users in order, with the same clearances and holdings.
 pub record SameDirectory (s s′ : Said) : Type 0 where

@@ -1,4 +1,4 @@
--- Two policies are over the same directory exactly when roles, users and holdings are equal; and the arrays tell it.
+-- Two policies are over the same directory exactly when roles, users and holdings are equal; and two ledgers tell it by their words.
 use Prim.Native.Nat.{ℕ, suc, _-_, _*_, _≤_}
 use mathlib.Core.Bool.{Bool, true, false, _&&_, true≢false, false≢true, and-false, and-eq-true-iff}
 use mathlib.Core.List.{List, [], _∷_}
@@ -6,23 +6,23 @@ use mathlib.Core.Logic.{_↔_}
 use mathlib.Core.Path.{_≡_, refl, sym, ap, ap₂, subst, _∙_}
 use borrow.Author.Tests.{eq-eqb}
 use lib.Dec.{eqb}
-use lib.ListN.{length, take}
+use lib.ListN.{length, take, drop, length-drop}
+use lib.Seq.{length-take-le}
 use native.Mathlib.Omega.{arith}
 use Rattle.roles.specs.Sets.{sameSet}
 use Rattle.roles.specs.MemberLaws.{same-equal, equal-same}
 use Rattle.model.specs.declared.Person.{Person}
-use Rattle.model.specs.Policy.{nobody}
 use Rattle.tables.specs.declared.Name.{Name}
 use Rattle.tables.specs.Names.{sameName, placeOf, rows}
 use Rattle.tables.specs.NameLaws.{rows-length, place-one-to-one}
-use Rattle.reading.specs.declared.directory.Directory.{Directory}
-use Rattle.reading.specs.declared.policy.Rules.{Rules}
+use Rattle.ledgers.specs.Parts.{rowsIn}
+use Rattle.ledgers.specs.Ledger.{ledgerWords, people}
+use Rattle.ledgers.specs.LedgerLaws.{roles-rows, users-lent}
+use Rattle.lines.specs.declared.Counts.{Counts}
 use Rattle.reading.specs.Policy.{Said}
-use Rattle.tables.specs.Padded.{padded}
-use Rattle.reading.specs.Told.{Recorded, roles-listed, users-listed, people-laid}
-use Rattle.merging.specs.Directory.{sameLists, sameLabel, samePerson, sameDirectory, sameTables, SameDirectory}
+use Rattle.reading.specs.Ledger.{ledgerSays}
+use Rattle.merging.specs.Directory.{sameLists, sameLabel, samePerson, sameDirectory, SameDirectory}
 use Rattle.merging.specs.Comparing.{same-names}
-use Rattle.tables.specs.Storing.{laid-back}
 
 -- ---- a test of two elements that is exact makes one of two lists
 
@@ -92,24 +92,7 @@ same-exact s s′ = (
       (lists-exact samePerson person-exact (s .holdings) (s′ .holdings) .1 (d .holdings)),
 )
 
--- ---- the same of policies in arrays
-
--- as many people as were laid out
-people : {s : Said} {D : Directory} {R : Rules} → Recorded s D R → take (D .counts .users) (D .persons) ≡ s .holdings
-unfolding padded
-people {s} {D} l =
-    ap (take (D .counts .users)) (people-laid l)
-    ∙ laid-back 64 nobody (s .holdings) {count = D .counts .users} (omega (arith, l .users, l .sound .people))
-
--- Two policies laid out are over the same directory where their texts are.
-pub directory-laid : {s s′ : Said} {D E : Directory} {P Q : Rules} → Recorded s D P → Recorded s′ E Q → sameTables D E ≡ sameDirectory s s′
-unfolding sameTables sameDirectory
-directory-laid l l′ =
-    ap₂ _&&_
-    (ap₂ _&&_ (ap₂ (sameLists sameName) (roles-listed l) (roles-listed l′)) (ap₂ (sameLists sameName) (users-listed l) (users-listed l′)))
-    (ap₂ (sameLists samePerson) (people l) (people l′))
-
--- ---- how the answer for policies in arrays is found
+-- ---- how two ledgers tell it
 
 -- lists of different lengths differ
 lengths-differ : {A : Type 0} (same : A → A → Bool) (xs ys : List A) → (length xs ≡ length ys → ⊥) → sameLists same xs ys ≡ false
@@ -128,21 +111,32 @@ module _ {m n : ℕ} (one two : List ℕ) where
   pub words-told : m ≡ n → 4 * m ≤ length one → 4 * m ≤ length two → {answer b : Bool} → answer ≡ sameLists eqb (take (4 * m) one) (take (4 * m) two) → answer ≡ b → sameLists sameName (rows m one) (rows n two) ≡ b
   words-told even room other given is = ap (λ (k : ℕ). sameLists sameName (rows m one) (rows k two)) (sym even) ∙ sym (same-names m one two room other) ∙ sym given ∙ is
 
-module _ (p q : Directory) where
+-- the user names stand from a place on
+abbrev pub userTable : List ℕ → List ℕ
+userTable words = take (length words - 512) (drop 512 words)
+
+-- there is room for them
+pub user-room : (words : List ℕ) → ledgerWords ≤ length words → {users : ℕ} → users ≤ 64 → 4 * users ≤ length (userTable words)
+user-room words enough few =
+    omega (arith, length-take-le (length words - 512) (drop 512 words) (omega (arith, length-drop 512 words)))
+
+module _ (one two : List ℕ) (c d : Counts) where
   -- the role names differ
-  pub roles-differ : sameLists sameName (rows (p .counts .roles) (p .roles)) (rows (q .counts .roles) (q .roles)) ≡ false → false ≡ sameTables p q
-  unfolding sameTables
-  roles-differ differ = rw differ
+  pub roles-differ : sameLists sameName (rows (c .roles) one) (rows (d .roles) two) ≡ false → false ≡ sameDirectory (ledgerSays one c) (ledgerSays two d)
+  unfolding sameDirectory ledgerSays
+  roles-differ differ = rw (← roles-rows one (c .roles), ← roles-rows two (d .roles), differ)
 
   -- the user names differ
-  pub users-differ : sameLists sameName (rows (p .counts .users) (p .users)) (rows (q .counts .users) (q .users)) ≡ false → false ≡ sameTables p q
-  unfolding sameTables
-  users-differ differ = rw (differ, and-false)
+  pub users-differ : sameLists sameName (rows (c .users) (userTable one)) (rows (d .users) (userTable two)) ≡ false → false ≡ sameDirectory (ledgerSays one c) (ledgerSays two d)
+  unfolding sameDirectory ledgerSays
+  users-differ differ = rw (← users-lent one (c .users), ← users-lent two (d .users), differ, and-false)
 
   -- the same names: the people decide
-  pub people-told : sameLists sameName (rows (p .counts .roles) (p .roles)) (rows (q .counts .roles) (q .roles)) ≡ true
-      → sameLists sameName (rows (p .counts .users) (p .users)) (rows (q .counts .users) (q .users)) ≡ true
-      → p .counts .users ≡ q .counts .users
-      → {answer : Bool} → answer ≡ sameLists samePerson (take (p .counts .users) (p .persons)) (take (p .counts .users) (q .persons)) → answer ≡ sameTables p q
-  unfolding sameTables
-  people-told roles users even given = rw (roles, users, ← even) given
+  pub people-told : sameLists sameName (rows (c .roles) one) (rows (d .roles) two) ≡ true
+      → sameLists sameName (rows (c .users) (userTable one)) (rows (d .users) (userTable two)) ≡ true
+      → c .users ≡ d .users
+      → {answer : Bool} → answer ≡ sameLists samePerson (rowsIn people one (c .users)) (rowsIn people two (c .users)) → answer ≡ sameDirectory (ledgerSays one c) (ledgerSays two d)
+  unfolding sameDirectory ledgerSays
+  people-told roles users even given =
+      rw (← roles-rows one (c .roles), ← roles-rows two (d .roles), ← users-lent one (c .users), ← users-lent two (d .users), roles, users)
+      (given ∙ ap (λ (count : ℕ). sameLists samePerson (rowsIn people one (c .users)) (rowsIn people two count)) even)

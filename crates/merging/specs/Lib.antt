@@ -2,6 +2,6 @@
 pub mod Directory
 pub mod Comparing
 pub mod DirectoryLaws
-pub mod Layout
 pub mod Merge
+pub mod Halves
 pub mod MergeOutcomes

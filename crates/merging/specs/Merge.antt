@@ -61,6 +61,10 @@ mergeOutcome policy₁ typing₁ policy₂ typing₂ room =
     whenRead (MergeAnswer.Refused 4) (readTyping (s′ .roles) typing₂) (λ (u : Typed).
     whenSame s s′ (mergeJudged room s (tableOf t) s′ (tableOf u))))))
 
+-- How many words of memory a merge takes: a ledger for each policy.
+abbrev pub mergeWords : ℕ
+mergeWords = 6144
+
 -- Document 01's number of an answer, and its values: the joint counts, pinned and the length; which of the four judgings, the
 -- part and its number; which text a refusal speaks of, and the line.
 abbrev pub numberOf : MergeAnswer → ℕ

@@ -1,6 +1,6 @@
 -- How the outcome of merge follows from what is read, compared, judged, counted and written.
 use Prim.Native.Nat.{ℕ, _+_, _<_, _≤_}
-use mathlib.Core.Bool.{Bool, true, false, and-false}
+use mathlib.Core.Bool.{true, false, and-false}
 use mathlib.Core.List.{List}
 use mathlib.Core.Path.{_≡_, sym, ap, ap₂, _∙_}
 use borrow.Author.Tests.{le-leb, lt-leb}
@@ -8,29 +8,29 @@ use lib.ListN.{length}
 use Rattle.model.specs.declared.Typing.{Typing as Table}
 use Rattle.tables.specs.declared.Name.{Name}
 use Rattle.lines.specs.declared.Counts.{Counts}
-use Rattle.reading.specs.declared.directory.Directory.{Directory}
-use Rattle.reading.specs.declared.policy.Rules.{Rules}
 use Rattle.walking.specs.Texts.{read, refused}
 use Rattle.reading.specs.Policy.{Said, countsOf, readPolicy}
-use Rattle.reading.specs.Told.{Recorded}
 use Rattle.typings.specs.TypingText.{Typed, readTyping, tableOf}
 use Rattle.judging.specs.declared.Part.{Part}
 use Rattle.judging.specs.declared.TypingVerdict.{TypingVerdict}
-use Rattle.judging.specs.Verdict.{policyIn, subjectIn, judgedTyping, judgedRules, pinnedNames}
+use Rattle.judging.specs.Verdict.{typingVerdict, rulesVerdict, pinnedNames}
 use Rattle.spelling.specs.TypingText.{typingText}
 use Rattle.summing.specs.Sums.{sumOf}
-use Rattle.summing.specs.Outcome.{leaves, fitting, Meets}
+use Rattle.summing.specs.Outcome.{Outcome, leaves, whenRead, fitting, Meets}
 use Rattle.summing.specs.Meeting.{meets-as, when-read, when-refused, text-some, met-named, none-written, all-written}
 use Rattle.merging.specs.declared.MergeAnswer.{MergeAnswer}
-use Rattle.merging.specs.Directory.{sameDirectory, sameTables}
-use Rattle.merging.specs.DirectoryLaws.{directory-laid}
-use Rattle.merging.specs.Layout.{verdict-told, rules-told}
+use Rattle.merging.specs.Directory.{sameDirectory}
 use Rattle.merging.specs.Merge.{whenSame, whenAccepted, countsFit, mergeWritten, mergeCounted, mergeJudged, mergeOutcome}
 
 -- ---- the four texts
 
+-- What is left once both policies and typing one are read: typing two, then the directories and the judgings.
+unfoldable pub mergeTyped : ℕ → Said → Table → Said → (typing₂ : List ℕ) → Outcome MergeAnswer
+mergeTyped room s t s′ typing₂ =
+    whenRead (MergeAnswer.Refused 4) (readTyping (s′ .roles) typing₂) (λ (u : Typed). whenSame s s′ (mergeJudged room s t s′ (tableOf u)))
+
 module _ (policy₁ typing₁ policy₂ typing₂ : List ℕ) (room : ℕ) where
-  -- policy one is refused, or typing one, or policy two, or typing two
+  -- policy one is refused, or typing one, or policy two
   pub policy-one-refused : {k n : ℕ} → readPolicy policy₁ ≡ refused k n → mergeOutcome policy₁ typing₁ policy₂ typing₂ room ≡ leaves (MergeAnswer.Refused 1 k n)
   unfolding mergeOutcome
   policy-one-refused one = when-refused _ _ one
@@ -45,55 +45,55 @@ module _ (policy₁ typing₁ policy₂ typing₂ : List ℕ) (room : ℕ) where
       unfolding mergeOutcome
       policy-two-refused two = when-read _ _ one ∙ when-read _ _ first ∙ when-refused _ _ two
 
-      module _ {s′ : Said} (two : readPolicy policy₂ ≡ read s′) where
-        pub typing-two-refused : {k n : ℕ} → readTyping (s′ .roles) typing₂ ≡ refused k n → mergeOutcome policy₁ typing₁ policy₂ typing₂ room ≡ leaves (MergeAnswer.Refused 4 k n)
-        unfolding mergeOutcome
-        typing-two-refused second = when-read _ _ one ∙ when-read _ _ first ∙ when-read _ _ two ∙ when-refused _ _ second
+      -- both policies and typing one are read
+      pub policies-read : {s′ : Said} → readPolicy policy₂ ≡ read s′ → {a : Said} → a ≡ s → {v : Table} → v ≡ tableOf t → mergeOutcome policy₁ typing₁ policy₂ typing₂ room ≡ mergeTyped room a v s′ typing₂
+      unfolding mergeOutcome mergeTyped
+      policies-read {s′} two a-is v-is = when-read _ _ one ∙ when-read _ _ first ∙ when-read _ _ two ∙ sym (ap₂ (λ (a : Said) (v : Table). mergeTyped room a v s′ typing₂) a-is v-is)
 
-        -- all four are read
-        pub all-read : {u : Typed} → readTyping (s′ .roles) typing₂ ≡ read u → {v w : Table} → v ≡ tableOf t → w ≡ tableOf u
-            → mergeOutcome policy₁ typing₁ policy₂ typing₂ room ≡ whenSame s s′ (mergeJudged room s v s′ w)
-        unfolding mergeOutcome
-        all-read second v-is w-is =
-            when-read _ _ one ∙ when-read _ _ first ∙ when-read _ _ two ∙ when-read _ _ second ∙ sym (ap₂ (λ (v w : Table). whenSame s s′ (mergeJudged room s v s′ w)) v-is w-is)
+module _ (s s′ : Said) (t : Table) (typing₂ : List ℕ) (room : ℕ) where
+  -- typing two is refused
+  pub typing-two-refused : {k n : ℕ} → readTyping (s′ .roles) typing₂ ≡ refused k n → mergeTyped room s t s′ typing₂ ≡ leaves (MergeAnswer.Refused 4 k n)
+  unfolding mergeTyped
+  typing-two-refused second = when-refused _ _ second
+
+  -- all four are read
+  pub all-read : {u : Typed} → readTyping (s′ .roles) typing₂ ≡ read u → {w : Table} → w ≡ tableOf u → mergeTyped room s t s′ typing₂ ≡ whenSame s s′ (mergeJudged room s t s′ w)
+  unfolding mergeTyped
+  all-read second w-is = when-read _ _ second ∙ sym (ap (λ (w : Table). whenSame s s′ (mergeJudged room s t s′ w)) w-is)
 
 -- ---- the directories and the four judgings
 
-module _ {s s′ : Said} {D E : Directory} {p q : Rules} (l : Recorded s D p) (l′ : Recorded s′ E q) (t u : Table) (room : ℕ) where
-  -- the arrays tell whether the directories are the same
-  same-told : {b : Bool} → sameTables D E ≡ b → sameDirectory s s′ ≡ b
-  same-told is = sym (directory-laid l l′) ∙ is
-
+module _ (s s′ : Said) (t u : Table) (room : ℕ) where
   -- 17
-  pub directories-differ : sameTables D E ≡ false → whenSame s s′ (mergeJudged room s t s′ u) ≡ leaves (MergeAnswer.Refused 0 17 0)
+  pub directories-differ : sameDirectory s s′ ≡ false → whenSame s s′ (mergeJudged room s t s′ u) ≡ leaves (MergeAnswer.Refused 0 17 0)
   unfolding whenSame
-  directories-differ differ = rw (same-told differ)
+  directories-differ differ = rw differ
 
-  module _ (same : sameTables D E ≡ true) where
+  module _ (same : sameDirectory s s′ ≡ true) where
     -- typing one fails on policy one, typing two on policy two, typing one on rules two, or typing two on rules one
-    pub fails-one : {part : Part} {number : ℕ} → judgedTyping (subjectIn (D .persons) p) t ≡ TypingVerdict.Fails part number → whenSame s s′ (mergeJudged room s t s′ u) ≡ leaves (MergeAnswer.Unproved 1 part number)
+    pub fails-one : {part : Part} {number : ℕ} → typingVerdict s t ≡ TypingVerdict.Fails part number → whenSame s s′ (mergeJudged room s t s′ u) ≡ leaves (MergeAnswer.Unproved 1 part number)
     unfolding whenSame mergeJudged whenAccepted
-    fails-one one = rw (same-told same, verdict-told l t one)
+    fails-one one = rw (same, one)
 
-    module _ (one : judgedTyping (subjectIn (D .persons) p) t ≡ TypingVerdict.Accepted) where
-      pub fails-two : {part : Part} {number : ℕ} → judgedTyping (subjectIn (E .persons) q) u ≡ TypingVerdict.Fails part number → whenSame s s′ (mergeJudged room s t s′ u) ≡ leaves (MergeAnswer.Unproved 2 part number)
+    module _ (one : typingVerdict s t ≡ TypingVerdict.Accepted) where
+      pub fails-two : {part : Part} {number : ℕ} → typingVerdict s′ u ≡ TypingVerdict.Fails part number → whenSame s s′ (mergeJudged room s t s′ u) ≡ leaves (MergeAnswer.Unproved 2 part number)
       unfolding whenSame mergeJudged whenAccepted
-      fails-two two = rw (same-told same, verdict-told l t one, verdict-told l′ u two)
+      fails-two two = rw (same, one, two)
 
-      module _ (two : judgedTyping (subjectIn (E .persons) q) u ≡ TypingVerdict.Accepted) where
-        pub fails-three : {part : Part} {number : ℕ} → judgedRules (q .counts .roles) (policyIn q) t ≡ TypingVerdict.Fails part number → whenSame s s′ (mergeJudged room s t s′ u) ≡ leaves (MergeAnswer.Unproved 3 part number)
+      module _ (two : typingVerdict s′ u ≡ TypingVerdict.Accepted) where
+        pub fails-three : {part : Part} {number : ℕ} → rulesVerdict s′ t ≡ TypingVerdict.Fails part number → whenSame s s′ (mergeJudged room s t s′ u) ≡ leaves (MergeAnswer.Unproved 3 part number)
         unfolding whenSame mergeJudged whenAccepted
-        fails-three three = rw (same-told same, verdict-told l t one, verdict-told l′ u two, rules-told l′ t three)
+        fails-three three = rw (same, one, two, three)
 
-        module _ (three : judgedRules (q .counts .roles) (policyIn q) t ≡ TypingVerdict.Accepted) where
-          pub fails-four : {part : Part} {number : ℕ} → judgedRules (p .counts .roles) (policyIn p) u ≡ TypingVerdict.Fails part number → whenSame s s′ (mergeJudged room s t s′ u) ≡ leaves (MergeAnswer.Unproved 4 part number)
+        module _ (three : rulesVerdict s′ t ≡ TypingVerdict.Accepted) where
+          pub fails-four : {part : Part} {number : ℕ} → rulesVerdict s u ≡ TypingVerdict.Fails part number → whenSame s s′ (mergeJudged room s t s′ u) ≡ leaves (MergeAnswer.Unproved 4 part number)
           unfolding whenSame mergeJudged whenAccepted
-          fails-four four = rw (same-told same, verdict-told l t one, verdict-told l′ u two, rules-told l′ t three, rules-told l u four)
+          fails-four four = rw (same, one, two, three, four)
 
           -- none fails
-          pub all-accepted : judgedRules (p .counts .roles) (policyIn p) u ≡ TypingVerdict.Accepted → whenSame s s′ (mergeJudged room s t s′ u) ≡ mergeCounted room s s′ (sumOf t u)
+          pub all-accepted : rulesVerdict s u ≡ TypingVerdict.Accepted → whenSame s s′ (mergeJudged room s t s′ u) ≡ mergeCounted room s s′ (sumOf t u)
           unfolding whenSame mergeJudged whenAccepted
-          all-accepted four = rw (same-told same, verdict-told l t one, verdict-told l′ u two, rules-told l′ t three, rules-told l u four)
+          all-accepted four = rw (same, one, two, three, four)
 
 -- ---- the joint counts and the text of the sum
 

@@ -3,9 +3,14 @@ ghost use mathlib.Core.Path.{_≡_};
 ghost use Prim.Native.Nat.{_≤_};
 ghost use lib.Dec.{eqb};
 ghost use lib.ListN.{length, take};
-ghost use Rattle.merging.specs.Directory.{sameLists, samePerson, sameTables};
+ghost use Rattle.ledgers.specs.Parts.{rowsIn};
+ghost use Rattle.ledgers.specs.Ledger.{ledgerWords, people};
+ghost use Rattle.reading.specs.Ledger.{Limited, ledgerSays};
+ghost use Rattle.merging.specs.Directory.{sameLists, samePerson, sameDirectory};
+use ledgers::USERS;
+use ledgers::person;
+use lines::Counts;
 use model::Person;
-use reading::directory::Directory;
 
 // Whether so many first words of two tables are the same.
 fn same_words(one: &[u64], two: &[u64], count: usize) -> bool
@@ -30,16 +35,14 @@ fn same_person(one: Person, two: Person) -> bool
     (one.clearance == two.clearance) & held.same(two.roles)
 }
 
-// Whether so many first people are the same, one by one.
-fn same_people(one: [Person; 64], two: [Person; 64], count: usize) -> bool
-    requires { ⌜ count ≤ 64 ⌝ }
-    ensures { λ r. ⌜ r ≡ sameLists samePerson (take count one) (take count two) ⌝ }
+// Whether so many first people of two ledgers are the same, one by one.
+fn same_people(one: &[u64], two: &[u64], count: usize) -> bool
+    requires { ⌜ (ledgerWords ≤ length (now one)) × (ledgerWords ≤ length (now two)) × (count ≤ 64) ⌝ }
+    ensures { λ r. ⌜ r ≡ sameLists samePerson (rowsIn people (now (one .entry)) count) (rowsIn people (now (two .entry)) count) ⌝ }
 {
     let mut user = 0;
     while user < count {
-        let person = one[user];
-        let other = two[user];
-        if !same_person(person, other) {
+        if !same_person(person(one, user), person(two, user)) {
             return false;
         }
         user += 1;
@@ -47,30 +50,24 @@ fn same_people(one: [Person; 64], two: [Person; 64], count: usize) -> bool
     true
 }
 
-// Whether two directories have the same roles in order and the same users in order, with the same clearances and holdings.
-pub fn same_directory(d: Directory, e: Directory) -> bool
-    requires { ⌜ (d .counts .roles ≤ 128) × (d .counts .users ≤ 64) ⌝ }
-    ensures { λ r. ⌜ r ≡ sameTables d e ⌝ }
+// Whether two ledgers say the same roles in order and the same users in order, with the same clearances and holdings.
+pub fn same_directory(one: &[u64], c: Counts, two: &[u64], d: Counts) -> bool
+    requires { ⌜ (ledgerWords ≤ length (now one)) × (ledgerWords ≤ length (now two)) × Limited c ⌝ }
+    ensures { λ r. ⌜ r ≡ sameDirectory (ledgerSays (now (one .entry)) c) (ledgerSays (now (two .entry)) d) ⌝ }
 {
-    let roles = d.counts.roles;
-    let users = d.counts.users;
-    if roles != e.counts.roles {
+    let roles = c.roles;
+    let users = c.users;
+    if roles != d.roles {
         return false;
     }
-    if users != e.counts.users {
+    if users != d.users {
         return false;
     }
-    let names = d.roles;
-    let others = e.roles;
-    if !same_words(&names, &others, 4 * roles) {
+    if !same_words(one, two, 4 * roles) {
         return false;
     }
-    let names = d.users;
-    let others = e.users;
-    if !same_words(&names, &others, 4 * users) {
+    if !same_words(&one[USERS..], &two[USERS..], 4 * users) {
         return false;
     }
-    let people = d.persons;
-    let others = e.persons;
-    same_people(people, others, users)
+    same_people(one, two, users)
 }

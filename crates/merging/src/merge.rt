@@ -3,26 +3,31 @@ ghost use mathlib.Core.Path.{_≡_};
 ghost use Prim.Native.Nat.{_*_, _≤_};
 ghost use lib.ListN.{length};
 ghost use Rattle.tables.specs.Names.{rows};
+ghost use Rattle.ledgers.specs.Ledger.{ledgerWords};
+ghost use Rattle.ledgers.specs.Memory.{noMemory, inMemory, Spared};
 ghost use Rattle.reading.specs.Policy.{Said, countsOf};
-ghost use Rattle.reading.specs.Told.{Recorded};
-ghost use Rattle.summing.specs.Outcome.{Meets};
-ghost use Rattle.merging.specs.Merge.{whenSame, mergeJudged, mergeCounted, mergeOutcome};
-ghost use Rattle.merging.specs.Layout.{Limited};
+ghost use Rattle.reading.specs.Ledger.{Limited, ledgerSays};
+ghost use Rattle.summing.specs.Outcome.{leaves, Meets};
+ghost use Rattle.merging.specs.declared.MergeAnswer.{MergeAnswer};
+ghost use Rattle.merging.specs.Merge.{whenSame, mergeJudged, mergeCounted, mergeOutcome, mergeWords};
+ghost use Rattle.merging.specs.Halves.{ledgerOne, ledgerTwo};
+ghost use Rattle.merging.specs.MergeOutcomes.{mergeTyped};
 use crate::MergeAnswer;
 use crate::directory::same_directory;
 use judging::TypingVerdict;
 use judging::judge_rules;
 use judging::judge_typing;
 use judging::pinned;
+use ledgers::WORDS;
 use lines::Counts;
 use model::Typing;
-use reading::directory::Directory;
-use reading::directory::read_directory;
-use reading::policy::Rules;
-use reading::policy::read_rules;
+use reading::read_policy;
 use summing::fitting::write_fitting;
 use summing::sum_of;
 use typings::read_typing;
+
+// How many words of memory a merge takes: a ledger for each policy.
+pub const MERGE_WORDS: usize = 6144;
 
 // The sum of accepted typings over the role names, written with the joint counts: 19 where one of them is above its limit, 18
 // where the text does not fit.
@@ -50,38 +55,86 @@ fn write_joint(names: &[u64], p: Counts, q: Counts, t: Typing, out: &mut [u8]) -
     MergeAnswer::Merged(roles, assigns, revokes, goals, pinned(t, roles), length)
 }
 
-// The answer to two policies with a typing each, once they are read.
+// The answer to two policies with a typing each, once they are read into ledgers.
 fn merge_read(
-    d: Directory,
-    p: Rules,
+    one: &[u64],
+    p: Counts,
     t: Typing,
-    e: Directory,
-    q: Rules,
+    two: &[u64],
+    q: Counts,
     u: Typing,
     out: &mut [u8],
 ) -> MergeAnswer
-    requires { ⌜ (d .counts .roles ≤ 128) × (d .counts .users ≤ 64) × Limited (p .counts) × Limited (q .counts) ⌝ }
-    ensures { λ r. ⌜ ((s s′ : Said) → Recorded s d p → Recorded s′ e q → Meets (whenSame s s′ (mergeJudged (length (now (out .entry))) s t s′ u)) (now (out .entry)) r (now (out .exit))) ⌝ }
+    requires { ⌜ (ledgerWords ≤ length (now one)) × Limited p × (ledgerWords ≤ length (now two)) × Limited q ⌝ }
+    ensures { λ r. ⌜ Meets (whenSame (ledgerSays (now (one .entry)) p) (ledgerSays (now (two .entry)) q) (mergeJudged (length (now (out .entry))) (ledgerSays (now (one .entry)) p) t (ledgerSays (now (two .entry)) q) u)) (now (out .entry)) r (now (out .exit)) ⌝ }
 {
-    if !same_directory(d, e) {
+    if !same_directory(one, p, two, q) {
         return MergeAnswer::Refused(0, 17, 0);
     }
-    let people = d.persons;
-    let others = e.persons;
-    if let TypingVerdict::Fails(part, number) = judge_typing(people, p, t) {
+    if let TypingVerdict::Fails(part, number) = judge_typing(one, p, t) {
         return MergeAnswer::Unproved(1, part, number);
     }
-    if let TypingVerdict::Fails(part, number) = judge_typing(others, q, u) {
+    if let TypingVerdict::Fails(part, number) = judge_typing(two, q, u) {
         return MergeAnswer::Unproved(2, part, number);
     }
-    if let TypingVerdict::Fails(part, number) = judge_rules(q, t) {
+    if let TypingVerdict::Fails(part, number) = judge_rules(two, q, t) {
         return MergeAnswer::Unproved(3, part, number);
     }
-    if let TypingVerdict::Fails(part, number) = judge_rules(p, u) {
+    if let TypingVerdict::Fails(part, number) = judge_rules(one, p, u) {
         return MergeAnswer::Unproved(4, part, number);
     }
-    let names = d.roles;
-    write_joint(&names, p.counts, q.counts, sum_of(t, u), out)
+    write_joint(one, p, q, sum_of(t, u), out)
+}
+
+// The answer once the policies are read into the two parts of the memory, and typing one: typing two is read.
+fn merge_typed(
+    memory: &[u64],
+    p: Counts,
+    t: Typing,
+    q: Counts,
+    typing_2: &[u8],
+    out: &mut [u8],
+) -> MergeAnswer
+    requires { ⌜ (mergeWords ≤ length (now memory)) × Limited p × Limited q ⌝ }
+    ensures { λ r. ⌜ Meets (mergeTyped (length (now (out .entry))) (ledgerSays (ledgerOne (now (memory .entry))) p) t (ledgerSays (ledgerTwo (now (memory .entry))) q) (now («typing_2» .entry))) (now (out .entry)) r (now (out .exit)) ⌝ }
+{
+    let two = &memory[WORDS..];
+    let second = read_typing(typing_2, two, q.roles);
+    if second.refusal != 0 {
+        return MergeAnswer::Refused(4, second.refusal, second.line);
+    }
+    let u = second.typing;
+    merge_read(&memory[..WORDS], p, t, two, q, u, out)
+}
+
+// The merge of two policies, each judged with a typing of its own: the sum of the typings, written into the lent buffer. The
+// policies are read into two parts of the lent memory.
+fn merge_with(
+    policy_1: &[u8],
+    typing_1: &[u8],
+    policy_2: &[u8],
+    typing_2: &[u8],
+    out: &mut [u8],
+    memory: &mut [u64],
+) -> MergeAnswer
+    requires { ⌜ mergeWords ≤ length (now memory) ⌝ }
+    ensures { λ r. ⌜ Meets (mergeOutcome (now («policy_1» .entry)) (now («typing_1» .entry)) (now («policy_2» .entry)) (now («typing_2» .entry)) (length (now (out .entry)))) (now (out .entry)) r (now (out .exit)) ⌝ }
+{
+    let one = read_policy(policy_1, &mut memory[..WORDS]);
+    if one.refusal != 0 {
+        return MergeAnswer::Refused(1, one.refusal, one.line);
+    }
+    let p = one.counts;
+    let first = read_typing(typing_1, &memory[..WORDS], p.roles);
+    if first.refusal != 0 {
+        return MergeAnswer::Refused(2, first.refusal, first.line);
+    }
+    let two = read_policy(policy_2, &mut memory[WORDS..]);
+    if two.refusal != 0 {
+        return MergeAnswer::Refused(3, two.refusal, two.line);
+    }
+    let t = first.typing;
+    merge_typed(memory, p, t, two.counts, typing_2, out)
 }
 
 // The merge of two policies, each judged with a typing of its own: the sum of the typings, written into the lent buffer.
@@ -94,31 +147,31 @@ pub fn merge(
 ) -> MergeAnswer
     ensures { λ r. ⌜ Meets (mergeOutcome (now («policy_1» .entry)) (now («typing_1» .entry)) (now («policy_2» .entry)) (now («typing_2» .entry)) (length (now (out .entry)))) (now (out .entry)) r (now (out .exit)) ⌝ }
 {
-    let d = read_directory(policy_1);
-    if d.refusal != 0 {
-        return MergeAnswer::Refused(1, d.refusal, d.line);
+    let mut memory = [0u64; MERGE_WORDS];
+    merge_with(policy_1, typing_1, policy_2, typing_2, out, &mut memory)
+}
+
+// The same in lent memory of any content; 254 where it is too little.
+pub fn merge_in(
+    policy_1: &[u8],
+    typing_1: &[u8],
+    policy_2: &[u8],
+    typing_2: &[u8],
+    out: &mut [u8],
+    memory: &mut [u64],
+) -> MergeAnswer
+    ensures { λ r. ⌜ Meets (inMemory mergeWords (length (now (memory .entry))) (leaves (MergeAnswer.Refused 0 noMemory 0)) (mergeOutcome (now («policy_1» .entry)) (now («typing_1» .entry)) (now («policy_2» .entry)) (now («typing_2» .entry)) (length (now (out .entry))))) (now (out .entry)) r (now (out .exit)) ⌝ }
+    ensures { λ _. ⌜ Spared mergeWords (now (memory .entry)) (now (memory .exit)) ⌝ }
+{
+    if memory.len() < MERGE_WORDS {
+        return MergeAnswer::Refused(0, 254, 0);
     }
-    let p = read_rules(policy_1, &d.roles, &d.users, d.counts, d.at, d.line);
-    if p.refusal != 0 {
-        return MergeAnswer::Refused(1, p.refusal, p.line);
-    }
-    let first = read_typing(typing_1, &d.roles, p.counts.roles);
-    if first.refusal != 0 {
-        return MergeAnswer::Refused(2, first.refusal, first.line);
-    }
-    let e = read_directory(policy_2);
-    if e.refusal != 0 {
-        return MergeAnswer::Refused(3, e.refusal, e.line);
-    }
-    let q = read_rules(policy_2, &e.roles, &e.users, e.counts, e.at, e.line);
-    if q.refusal != 0 {
-        return MergeAnswer::Refused(3, q.refusal, q.line);
-    }
-    let second = read_typing(typing_2, &e.roles, q.counts.roles);
-    if second.refusal != 0 {
-        return MergeAnswer::Refused(4, second.refusal, second.line);
-    }
-    let t = first.typing;
-    let u = second.typing;
-    merge_read(d, p, t, e, q, u, out)
+    merge_with(
+        policy_1,
+        typing_1,
+        policy_2,
+        typing_2,
+        out,
+        &mut memory[..MERGE_WORDS],
+    )
 }

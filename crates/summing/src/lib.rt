@@ -3,14 +3,17 @@ ghost use mathlib.Core.Path.{_≡_};
 ghost use lib.ListN.{length};
 ghost use Prim.Native.Nat.{_*_, _≤_};
 ghost use Rattle.tables.specs.Names.{rows};
-ghost use Rattle.summing.specs.Outcome.{Meets};
+ghost use Rattle.ledgers.specs.Ledger.{ledgerWords};
+ghost use Rattle.ledgers.specs.Memory.{noMemory, inMemory, Spared};
+ghost use Rattle.summing.specs.declared.SumAnswer.{SumAnswer};
+ghost use Rattle.summing.specs.Outcome.{leaves, Meets};
 ghost use Rattle.summing.specs.Sum.{sumWritten, sumOutcome};
 ghost use Rattle.summing.specs.Sums.{sumOf};
 use crate::fitting::write_fitting;
 use judging::pinned;
+use ledgers::WORDS;
 use model::Typing;
-use reading::directory::read_directory;
-use reading::policy::read_rules;
+use reading::read_policy;
 use typings::read_typing;
 
 pub mod fitting;
@@ -54,28 +57,56 @@ fn write_sum(names: &[u64], roles: usize, t: Typing, out: &mut [u8]) -> SumAnswe
     SumAnswer::Summed(pinned(t, roles), length)
 }
 
-// The sum of two typings over a policy, written into the lent buffer.
-pub fn sum(policy: &[u8], first: &[u8], second: &[u8], out: &mut [u8]) -> SumAnswer
+// The sum of two typings over a policy, written into the lent buffer; the policy is read into a lent ledger.
+fn sum_with(
+    policy: &[u8],
+    first: &[u8],
+    second: &[u8],
+    out: &mut [u8],
+    ledger: &mut [u64],
+) -> SumAnswer
+    requires { ⌜ ledgerWords ≤ length (now ledger) ⌝ }
     ensures { λ r. ⌜ Meets (sumOutcome (now (policy .entry)) (now (first .entry)) (now (second .entry)) (length (now (out .entry)))) (now (out .entry)) r (now (out .exit)) ⌝ }
 {
-    let d = read_directory(policy);
-    if d.refusal != 0 {
-        return SumAnswer::Refused(1, d.refusal, d.line);
+    let p = read_policy(policy, ledger);
+    if p.refusal != 0 {
+        return SumAnswer::Refused(1, p.refusal, p.line);
     }
-    let r = read_rules(policy, &d.roles, &d.users, d.counts, d.at, d.line);
-    if r.refusal != 0 {
-        return SumAnswer::Refused(1, r.refusal, r.line);
-    }
-    let roles = r.counts.roles;
-    let one = read_typing(first, &d.roles, roles);
+    let roles = p.counts.roles;
+    let one = read_typing(first, ledger, roles);
     if one.refusal != 0 {
         return SumAnswer::Refused(2, one.refusal, one.line);
     }
-    let two = read_typing(second, &d.roles, roles);
+    let two = read_typing(second, ledger, roles);
     if two.refusal != 0 {
         return SumAnswer::Refused(3, two.refusal, two.line);
     }
     let t = one.typing;
     let u = two.typing;
-    write_sum(&d.roles, roles, sum_of(t, u), out)
+    write_sum(ledger, roles, sum_of(t, u), out)
+}
+
+// The sum of two typings over a policy, written into the lent buffer.
+pub fn sum(policy: &[u8], first: &[u8], second: &[u8], out: &mut [u8]) -> SumAnswer
+    ensures { λ r. ⌜ Meets (sumOutcome (now (policy .entry)) (now (first .entry)) (now (second .entry)) (length (now (out .entry)))) (now (out .entry)) r (now (out .exit)) ⌝ }
+{
+    let mut ledger = [0u64; WORDS];
+    sum_with(policy, first, second, out, &mut ledger)
+}
+
+// The same in lent memory of any content; 254 where it is too little.
+pub fn sum_in(
+    policy: &[u8],
+    first: &[u8],
+    second: &[u8],
+    out: &mut [u8],
+    memory: &mut [u64],
+) -> SumAnswer
+    ensures { λ r. ⌜ Meets (inMemory ledgerWords (length (now (memory .entry))) (leaves (SumAnswer.Refused 0 noMemory 0)) (sumOutcome (now (policy .entry)) (now (first .entry)) (now (second .entry)) (length (now (out .entry))))) (now (out .entry)) r (now (out .exit)) ⌝ }
+    ensures { λ _. ⌜ Spared ledgerWords (now (memory .entry)) (now (memory .exit)) ⌝ }
+{
+    if memory.len() < WORDS {
+        return SumAnswer::Refused(0, 254, 0);
+    }
+    sum_with(policy, first, second, out, &mut memory[..WORDS])
 }
