@@ -13,6 +13,9 @@ use Rattle.text.specs.Pieces.{part, Sought}
 use Rattle.walking.specs.Texts.{Reading, read, refused}
 use Rattle.tables.specs.Names.{rows}
 use Rattle.lines.specs.declared.Counts.{Counts}
+use Rattle.ledgers.specs.Ledger.{ledgerWords}
+use Rattle.ledgers.specs.Memory.{noMemory}
+use Rattle.ledgers.specs.MemoryLaws.{memory-short, memory-enough}
 use Rattle.reading.specs.Policy.{Said, readPolicy}
 use Rattle.reading.specs.Told.{Told, roles-told}
 use Rattle.typings.specs.declared.TypingRead.{TypingRead}
@@ -21,7 +24,7 @@ use Rattle.places.specs.declared.Span.{Span}
 use Rattle.places.specs.declared.BadPlace.{BadPlace}
 use Rattle.typings.specs.TypingText.{Typed, readTyping, refusedTyping, answerOf, typingRead}
 use Rattle.traces.specs.TraceText.{readTrace}
-use Rattle.places.specs.Place.{told, refusalAfter, refusalAs, typingRefusalOf, noSpan, spanOf, badSpan, placeOf, bytesAt, beginsAt}
+use Rattle.places.specs.Place.{told, refusalAfter, refusalAs, typingRefusalOf, noSpan, spanOf, badSpan, placeOf, bytesAt, beginsAt, lentRefusal}
 
 module _ (typing : Bool) (policy evidence : List ℕ) where
   -- a policy that is refused decides, and one that is read leaves it to the evidence
@@ -209,3 +212,15 @@ module _ (policy evidence : List ℕ) (P E : ℕ × ℕ) {place p : BadPlace} (i
   pub part-policy : place .evidence ≡ false → (part policy (place .from) (place .to) ≡ bytesAt policy evidence p) × ((P .0, place .from + P .1) ≡ beginsAt P E p)
   unfolding beginsAt
   part-policy there = subst (λ (q : BadPlace). (part policy (place .from) (place .to) ≡ bytesAt policy evidence q) × ((P .0, place .from + P .1) ≡ beginsAt P E q)) is (rw there, rw there)
+
+-- ---- in lent memory
+
+-- in enough words the refusal is that of the texts,
+pub lent-enough : (words : ℕ) (r : Refusal) → ledgerWords ≤ words → lentRefusal words r ≡ r
+unfolding lentRefusal
+lent-enough words r enough = memory-enough ledgerWords words (record { number = noMemory; line = 0 }) r enough
+
+-- and in too few no line is bad: it is nowhere, at the policy's start.
+pub lent-nowhere : (policy evidence : List ℕ) (words : ℕ) (r : Refusal) → words < ledgerWords → placeOf policy evidence (lentRefusal words r) ≡ record { evidence = false; from = 0; to = 0 }
+unfolding lentRefusal placeOf badSpan noSpan
+lent-nowhere policy evidence words r few = ap (placeOf policy evidence) (memory-short ledgerWords words (record { number = noMemory; line = 0 }) r few)
