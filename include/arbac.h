@@ -6,7 +6,7 @@
    written, a buffer of bytes or an array of numbers, overlaps nothing else of the same call.
 
    Nothing else is asked: every text of every length has an answer. No function keeps anything between calls, allocates or
-   prints, so calls from several threads do not meet. A call takes less than 512 KB of stack.
+   prints, so calls from several threads do not meet. A call takes less stack than ARBAC_STACK or ARBAC_MERGE_STACK says.
 
    WHAT WAS ANSWERED IS THE NUMBER THAT A FUNCTION RETURNS, AND NOTHING ELSE SAYS IT. NO ARRAY AND NO BUFFER TELLS WHICH ANSWER
    IT BELONGS TO: LOOK AT THE NUMBER FIRST. ARBAC_NO_ROOM IS NO ANSWER: THE ARRAY WAS TOO SHORT, NOTHING WAS JUDGED AND NOTHING
@@ -90,6 +90,10 @@ extern "C" {
 #define ARBAC_SUM 2
 #define ARBAC_MERGE 6
 #define ARBAC_TEXT 32768
+
+/* A call takes fewer bytes of stack than this, a merge fewer than the second. */
+#define ARBAC_STACK 524288
+#define ARBAC_MERGE_STACK 524288
 
 /* Judges a piece of evidence, a typing or a trace, over a policy.
 

@@ -1,6 +1,7 @@
 //! `bench FOLDER`: how long the library and the reference take for the same texts, how the times
 //! grow with the number of roles, and how much stack a call takes. FOLDER has the desk and the
-//! hostile texts. Status 1 where the two answer differently.
+//! hostile texts. Status 1 where the two answer differently, and where a call takes more stack than
+//! the header promises.
 
 use std::collections::BTreeSet;
 use std::path::Path;
@@ -20,7 +21,8 @@ mod stack;
 mod texts;
 
 use answers::Said;
-use texts::{desks, every_place, full, halves, read_only, sum_of, trace, Closing, Input};
+use texts::{crowded, every_place, full, halves, read_only, sum_of, trace, twice};
+use texts::{Closing, Input, TEXT_LIMIT};
 
 /// A time is the median of at least this many calls.
 const CALLS: usize = 9;
@@ -28,7 +30,8 @@ const CALLS: usize = 9;
 /// More calls are made until they took this long together.
 const LONG_ENOUGH: Duration = Duration::from_millis(200);
 
-const TEXT_LIMIT: usize = 32_768;
+/// What C callers are promised.
+const HEADER: &str = include_str!("../../include/arbac.h");
 
 /// The place of the full policy that is only read, among the inputs of check.
 const READ_ONLY: usize = 1;
@@ -155,7 +158,7 @@ fn times(input: &Input, lent: &mut Lent) -> Times {
 }
 
 fn microseconds(time: Duration) -> String {
-    format!("{:.1}", time.as_secs_f64() * 1e6)
+    format!("{:.2}", time.as_secs_f64() * 1e6)
 }
 
 fn ratio(one: Duration, other: Duration) -> String {
@@ -217,17 +220,101 @@ fn print_growth(inputs: &[Input], lent: &mut Lent) {
     }
 }
 
-/// The largest stack that a call takes over some inputs, and the input it takes it for.
-fn print_stack(call: &str, inputs: &[Input], ask: impl Fn(&[Vec<u8>], &mut Lent)) {
+/// The number that the header gives a name.
+fn promised(name: &str) -> usize {
+    HEADER
+        .lines()
+        .filter_map(|line| line.strip_prefix("#define ")?.split_once(' '))
+        .find(|(defined, _)| *defined == name)
+        .and_then(|(_, number)| number.parse().ok())
+        .unwrap_or_else(|| panic!("a number called {} in the header", name))
+}
+
+/// A call, the name in the header of the stack that it takes less than, and what it is given.
+struct Call<'a> {
+    name: &'static str,
+    promise: &'static str,
+    inputs: &'a [Input],
+    ask: fn(&[Vec<u8>], &mut Lent),
+}
+
+/// Prints the largest stack that a call takes over its inputs, and the input it takes it for; tells
+/// where that is above the promise.
+fn print_stack(call: &Call) -> Option<String> {
     let mut lent = Lent::new();
     let mut most = (0, "");
-    for input in inputs {
-        let taken = stack::taken(&mut || ask(&input.texts, &mut lent));
+    for input in call.inputs {
+        let taken = stack::taken(&mut || (call.ask)(&input.texts, &mut lent));
         if taken > most.0 {
             most = (taken, &input.name);
         }
     }
-    println!("| {} | {} | {} | {} |", call, inputs.len(), most.0, most.1);
+    let (taken, text) = most;
+    let promised = promised(call.promise);
+    println!("| {} | {} | {} | {} | {} |", call.name, call.inputs.len(), taken, promised, text);
+    let broken = format!(
+        "FAILED: {} takes {} bytes of stack for {}; {} promises less than {}",
+        call.name, taken, text, call.promise, promised
+    );
+    Some(broken).filter(|_| taken >= promised)
+}
+
+/// Prints the stack of every function on ordinary texts and on the same with a hostile one in every
+/// place, and tells which promises are broken.
+fn print_stacks(checks: &[Input], merges: &[Input], hostile: &[(String, Vec<u8>)]) -> Vec<String> {
+    let sums: Vec<Input> = merges.iter().map(sum_of).collect();
+    let sums = every_place(&sums, hostile);
+    let checks = every_place(checks, hostile);
+    let merges = every_place(merges, hostile);
+    let calls = [
+        Call { name: "check", promise: "ARBAC_STACK", inputs: &checks, ask: ask_library },
+        Call {
+            name: "check_line",
+            promise: "ARBAC_STACK",
+            inputs: &checks,
+            ask: |texts, lent| {
+                lent.answered = library::check_line(&texts[0], &texts[1], &mut lent.out) as u64;
+            },
+        },
+        Call {
+            name: "bad_line",
+            promise: "ARBAC_STACK",
+            inputs: &checks,
+            ask: |texts, lent| {
+                lent.answered = library::bad_line(&texts[0], &texts[1], &mut lent.values);
+            },
+        },
+        Call {
+            name: "bad_typing_line",
+            promise: "ARBAC_STACK",
+            inputs: &checks,
+            ask: |texts, lent| {
+                lent.answered = library::bad_typing_line(&texts[0], &texts[1], &mut lent.values);
+            },
+        },
+        Call { name: "sum", promise: "ARBAC_STACK", inputs: &sums, ask: ask_library },
+        Call { name: "merge", promise: "ARBAC_MERGE_STACK", inputs: &merges, ask: ask_library },
+    ];
+    println!("| call | inputs | bytes of stack at most | promised below | for |");
+    println!("|---|---|---|---|---|");
+    calls.iter().filter_map(print_stack).collect()
+}
+
+/// The hostile texts, each by its name, and a set of many names in every place of a policy and a
+/// typing where a set can stand: in the goal it is `names.policy`, in the plus set `names.typing`.
+fn hostile_texts(folder: &Path, policy: &[u8], typing: &[u8]) -> Vec<(String, Vec<u8>)> {
+    let files: BTreeSet<&str> = HOSTILE.iter().flat_map(|pair| [pair.0, pair.1]).collect();
+    let mut texts: Vec<(String, Vec<u8>)> =
+        files.into_iter().map(|name| (name.to_string(), read(folder, name))).collect();
+    let many = read(folder, "names.policy");
+    let names = many.split(|byte| b"\t\n".contains(byte)).max_by_key(|field| field.len());
+    let names = names.expect("a longest field");
+    for (set, text, line, field) in
+        [("positive", policy, 7, 2), ("negative", policy, 7, 3), ("minus", typing, 1, 3)]
+    {
+        texts.push((format!("names in a {} set", set), crowded(text, line, field, names)));
+    }
+    texts
 }
 
 fn read(folder: &Path, name: &str) -> Vec<u8> {
@@ -249,9 +336,10 @@ fn main() {
     let folder = Path::new(&arguments[0]);
     let mut lent = Lent::new();
 
-    let desk = Input::new("the desk", &[&read(folder, "desk.policy"), &read(folder, "t1.typing")]);
+    let desk = read(folder, "desk.policy");
+    let t1 = read(folder, "t1.typing");
     let check = [
-        desk,
+        Input::new("the desk", &[&desk, &t1]),
         // the place that `READ_ONLY` names
         read_only(128),
         full(128, Closing::OneRound),
@@ -259,12 +347,17 @@ fn main() {
         trace(2_000),
     ];
     let merge = [halves(128, Closing::OneRound), halves(128, Closing::ManyRounds)];
+    let sum: Vec<Input> = merge.iter().map(sum_of).collect();
     let hostile: Vec<Input> = HOSTILE
         .iter()
         .map(|(policy, evidence)| {
             let name = format!("{}, {}", policy, evidence);
             Input::new(&name, &[&read(folder, policy), &read(folder, evidence)])
         })
+        .collect();
+    let growth: Vec<Vec<Input>> = [Closing::OneRound, Closing::ManyRounds]
+        .iter()
+        .map(|&closing| [16, 32, 64, 128].iter().map(|&roles| full(roles, closing)).collect())
         .collect();
 
     println!(
@@ -274,6 +367,8 @@ fn main() {
     println!("before each call, which is not part of the time; what the reference allocates is.");
     println!("\n## Check\n");
     let checked = print_times(&check, &mut lent);
+    println!("\n## Sum\n");
+    print_times(&sum, &mut lent);
     println!("\n## Merge\n");
     print_times(&merge, &mut lent);
     println!("\n## Hostile texts\n");
@@ -282,32 +377,19 @@ fn main() {
     print_multiples(&hostile, &attacked, checked[READ_ONLY].library);
 
     println!("\n## Growth with the number of roles\n");
-    for closing in [Closing::OneRound, Closing::ManyRounds] {
-        let inputs: Vec<Input> =
-            [16, 32, 64, 128].iter().map(|&roles| full(roles, closing)).collect();
-        print_growth(&inputs, &mut lent);
+    for inputs in &growth {
+        print_growth(inputs, &mut lent);
         println!();
     }
 
     println!("## Stack\n");
-    println!("| call | inputs | bytes of stack at most | for |\n|---|---|---|---|");
-    let names: BTreeSet<&str> = HOSTILE.iter().flat_map(|pair| [pair.0, pair.1]).collect();
-    let texts: Vec<(&str, Vec<u8>)> =
-        names.into_iter().map(|name| (name, read(folder, name))).collect();
-    let desks = desks(&check[0]);
-    let merges = every_place(&[&desks, &merge[0], &merge[1]], &texts);
-    let sums = every_place(&[&sum_of(&desks), &sum_of(&merge[0]), &sum_of(&merge[1])], &texts);
-    let checks = every_place(&check.iter().collect::<Vec<_>>(), &texts);
-    print_stack("check", &checks, ask_library);
-    print_stack("check_line", &checks, |texts, lent| {
-        lent.answered = library::check_line(&texts[0], &texts[1], &mut lent.out) as u64;
-    });
-    print_stack("bad_line", &checks, |texts, lent| {
-        lent.answered = library::bad_line(&texts[0], &texts[1], &mut lent.values);
-    });
-    print_stack("bad_typing_line", &checks, |texts, lent| {
-        lent.answered = library::bad_typing_line(&texts[0], &texts[1], &mut lent.values);
-    });
-    print_stack("sum", &sums, ask_library);
-    print_stack("merge", &merges, ask_library);
+    let checks = [check.to_vec(), growth.concat()].concat();
+    let merges = [checks.iter().map(twice).collect(), merge.to_vec()].concat();
+    let broken = print_stacks(&checks, &merges, &hostile_texts(folder, &desk, &t1));
+    for broken in &broken {
+        println!("{}", broken);
+    }
+    if !broken.is_empty() {
+        std::process::exit(1);
+    }
 }
