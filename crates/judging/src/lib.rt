@@ -96,7 +96,8 @@ pub fn judge_rules(ledger: &[u64], c: Counts, t: Typing) -> TypingVerdict
     requires { ⌜ (ledgerWords ≤ length (now ledger)) × Limited c ⌝ }
     ensures { λ r. ⌜ r ≡ rulesVerdict (ledgerSays (now (ledger .entry)) c) t ⌝ }
 {
-    let sheet = lay_out(t, c.roles);
+    let mut sheet = [0u64; 1026];
+    lay_out(t, c.roles, &mut sheet);
     rules_verdict(ledger, c, &sheet)
 }
 
@@ -105,7 +106,8 @@ pub fn judge_typing(ledger: &[u64], c: Counts, t: Typing) -> TypingVerdict
     requires { ⌜ (ledgerWords ≤ length (now ledger)) × Limited c ⌝ }
     ensures { λ r. ⌜ r ≡ typingVerdict (ledgerSays (now (ledger .entry)) c) t ⌝ }
 {
-    let sheet = lay_out(t, c.roles);
+    let mut sheet = [0u64; 1026];
+    lay_out(t, c.roles, &mut sheet);
     let user = first_failing(Part::Holdings, ledger, c.users, &sheet);
     let holdings = failing(Part::Holdings, user);
     let TypingVerdict::Accepted = holdings else {

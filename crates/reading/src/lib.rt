@@ -75,7 +75,7 @@ fn read_line(line: &[u8], ledger: &[u64], c: Counts) -> PolicyLine
     PolicyLine::Bad(11)
 }
 
-// A policy text. The first bad line decides the refusal.
+// A policy text. The first bad line decides the refusal; one without the header is refused with no look at the rest.
 pub fn read_policy(text: &[u8], ledger: &mut [u64]) -> PolicyRead
     requires { ⌜ ledgerWords ≤ length (now ledger) ⌝ }
     ensures { λ r. ⌜ ReadInto (now (text .entry)) r (now (ledger .exit)) ⌝ }
@@ -83,6 +83,9 @@ pub fn read_policy(text: &[u8], ledger: &mut [u64]) -> PolicyRead
     let end = text.len();
     if 32768 < end {
         return refused(10, 0);
+    }
+    if !text::begins_with(text, b"arbac\t1\n") {
+        return refused(11, 1);
     }
     let mut c = none();
     let mut at = 0;

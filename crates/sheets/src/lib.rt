@@ -3,6 +3,7 @@ ghost use mathlib.Core.Path.{_≡_};
 ghost use Prim.Native.Nat.{_≤_, _<_};
 ghost use mathlib.Core.Bool.{cond};
 ghost use lib.Dec.{eqb};
+ghost use lib.ListN.{replicate};
 ghost use Rattle.roles.specs.Sets.{hasRole, singleOf};
 ghost use Rattle.sheets.specs.Turned.{addIf, setsOf, turnedOf};
 ghost use Rattle.sheets.specs.Words.{columnNumber, highIn, setIn, saidIn, sheetOf};
@@ -110,26 +111,26 @@ fn note(sheet: &mut [u64; 1026], column: Column, members: RoleSet, role: usize)
     }
 }
 
-// The sheet of a typing over its first roles, which says what the typing says of them, turned round.
-pub fn lay_out(t: Typing, roles: usize) -> [u64; 1026]
-    ensures { λ r. ⌜ r ≡ sheetOf t roles ⌝ }
-    ensures { λ r. ⌜ saidIn r ≡ turnedOf t roles ⌝ }
+// Makes the sheet of a typing over its first roles, which says what the typing says of them, turned round, in words that are all 0.
+pub fn lay_out(t: Typing, roles: usize, sheet: &mut [u64; 1026])
+    requires { ⌜ now sheet ≡ replicate 1026 0 ⌝ }
+    ensures { λ _. ⌜ now (sheet .exit) ≡ sheetOf t roles ⌝ }
+    ensures { λ _. ⌜ saidIn (now (sheet .exit)) ≡ turnedOf t roles ⌝ }
 {
     let count = smaller(roles, 128);
-    let mut sheet = [0u64; 1026];
     let mut high = RoleSet::empty();
     let mut role = 0;
     while role < count {
         let more = t.plus[role];
         let less = t.minus[role];
-        put(&mut sheet, Column::Plus, role, more);
-        put(&mut sheet, Column::Minus, role, less);
-        note(&mut sheet, Column::Needed, more, role);
-        note(&mut sheet, Column::Opposed, less, role);
+        put(sheet, Column::Plus, role, more);
+        put(sheet, Column::Minus, role, less);
+        note(sheet, Column::Needed, more, role);
+        note(sheet, Column::Opposed, less, role);
         high = add_if(t.labels[role], RoleSet::single(role), high);
         role += 1;
     }
-    sheet[0] = high.low;
-    sheet[1] = high.high;
-    sheet
+    let words: &mut [u64] = sheet;
+    words[0] = high.low;
+    words[1] = high.high;
 }

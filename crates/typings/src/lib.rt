@@ -140,11 +140,11 @@ fn no_typing() -> Typing
     }
 }
 
-// A refusal, with the typing of no rows.
-fn refused(refusal: u64, line: usize) -> TypingRead
+// A refusal, with the typing of no rows. It is given, so that there is one of it in a reader's frame.
+fn refused(refusal: u64, line: usize, typing: Typing) -> TypingRead
+    requires { ⌜ typing ≡ tableOf untyped ⌝ }
     ensures { λ r. ⌜ r ≡ refusedTyping refusal line ⌝ }
 {
-    let typing = no_typing();
     TypingRead {
         refusal,
         line,
@@ -167,25 +167,26 @@ pub fn read_typing(text: &[u8], roles: &[u64], count: usize) -> TypingRead
     requires { ⌜ (4 * count ≤ length (now roles)) × (count ≤ 128) ⌝ }
     ensures { λ r. ⌜ r ≡ typingRead (rows count (now (roles .entry))) (now (text .entry)) ⌝ }
 {
+    let none = no_typing();
     let end = text.len();
     if 32768 < end {
-        return refused(14, 0);
+        return refused(14, 0, none);
     }
-    let mut typing = no_typing();
+    let mut typing = none;
     let mut stage = 0;
     let mut at = 0;
     let mut number = 1;
     while at < end {
         let stop = text::seek(text, at, b'\n');
         if stop == end {
-            return refused(15, number);
+            return refused(15, number, none);
         }
         let answer = read_line(&text[at..stop], roles, count, stage);
         let here = number;
         at = stop + 1;
         number += 1;
         let TypingLine::Good(entry) = answer else {
-            return refused(code(answer), here);
+            return refused(code(answer), here, none);
         };
         match entry {
             TypingEntry::Header => {
@@ -200,7 +201,7 @@ pub fn read_typing(text: &[u8], roles: &[u64], count: usize) -> TypingRead
             }
             TypingEntry::End => {
                 if at < end {
-                    return refused(15, number);
+                    return refused(15, number, none);
                 }
                 return TypingRead {
                     refusal: 0,
@@ -210,5 +211,5 @@ pub fn read_typing(text: &[u8], roles: &[u64], count: usize) -> TypingRead
             }
         }
     }
-    refused(15, number)
+    refused(15, number, none)
 }

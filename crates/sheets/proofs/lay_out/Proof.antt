@@ -1,7 +1,9 @@
 -- `lay_out` goes through the roles below the limit; the invariant: the sheet and the roles labelled H are what the typing says of the roles passed.
-use Prim.Native.Nat.{_≤_, _-_}
+use Prim.Native.Nat.{ℕ, _≤_, _-_}
 use borrow.Author.Needs.{needs}
-use mathlib.Core.Path.{ap, _∙_}
+use lib.ListN.{length-set}
+use mathlib.Core.List.{List}
+use mathlib.Core.Path.{ap, subst⁻¹, _∙_}
 use native.Mathlib.Omega.{arith}
 use Rattle.roles.specs.declared.RoleSet.{RoleSet}
 use Rattle.roles.specs.Sets.{emptySet}
@@ -12,10 +14,10 @@ use Rattle.sheets.proofs.lay_out.Statement.{statement}
 use Rattle.sheets.proofs.lay_out.Tie as tie
 
 abbrev Inv-loop : tie.InvT-loop
-Inv-loop roles t count sheet₀ high₀ role₀ sheet high role = (role ≤ count) × LaidBelow t role sheet high
+Inv-loop roles sheet₀ t count high₀ role₀ sheet high role = (role ≤ count) × LaidBelow t role sheet high
 
 abbrev μ-loop : tie.MeasureT-loop
-μ-loop roles t count sheet₀ high₀ role₀ sheet high role = count - role
+μ-loop roles sheet₀ t count high₀ role₀ sheet high role = count - role
 
 smaller-requires : tie.Need-smaller-requires Inv-loop μ-loop
 smaller-requires c κs = search needs
@@ -24,7 +26,9 @@ empty-requires : tie.Need-empty-requires Inv-loop μ-loop
 empty-requires c κs = search needs
 
 loop-holds : tie.Need-loop-holds Inv-loop μ-loop
-loop-holds c = (omega arith, laid-start (c .before .before .args .t1) (c .empty .ensures))
+loop-holds c =
+    let begun = c .before .before in
+    (omega arith, subst⁻¹ (λ (sheet : List ℕ). LaidBelow (begun .args .t1) 0 sheet (c .empty .result)) (begun .pre) (laid-start (begun .args .t1) (c .empty .ensures)))
 
 mul-more : tie.Need-mul-more Inv-loop μ-loop
 mul-more c = omega arith
@@ -80,15 +84,15 @@ loop-again c =
           (c .add-if .ensures ∙ ap (λ (s : RoleSet). addIf (meaning t .label (head .loop .role)) s (head .loop .high)) (c .before .single .ensures)),
     )
 
-array-write-sheet : tie.Need-array-write-sheet Inv-loop μ-loop
-array-write-sheet c = search needs
+slice-write-words : tie.Need-slice-write-words Inv-loop μ-loop
+slice-write-words c = omega (arith, c .before .before .loop .inv .1 .size)
 
-array-write-sheet-2 : tie.Need-array-write-sheet-2 Inv-loop μ-loop
-array-write-sheet-2 c = search needs
+slice-write-words-2 : tie.Need-slice-write-words-2 Inv-loop μ-loop
+slice-write-words-2 c = simp length-set (omega (arith, c .before .before .loop .inv .1 .size))
 
 returns : tie.Need-returns Inv-loop μ-loop
 returns c =
-    let head = c .before in
+    let head = c .before .before in
     let start = head .before .before .before in
     laid-end (head .loop .inv .1) (start .args .roles) (omega (arith, head .before .before .smaller .ensures))
 
@@ -115,6 +119,6 @@ lay-out-spec =
     add-role
     loop-less
     loop-again
-    array-write-sheet
-    array-write-sheet-2
+    slice-write-words
+    slice-write-words-2
     returns)

@@ -14,13 +14,13 @@ use Rattle.typings.proofs.read_typing.Statement.{statement}
 use Rattle.typings.proofs.read_typing.Tie as tie
 
 abbrev Inv-loop : tie.InvT-loop
-Inv-loop text roles count end typing₀ stage₀ at₀ number₀ typing stage at number = Reached (rows count roles) text at number stage typing
+Inv-loop text roles count none end typing₀ stage₀ at₀ number₀ typing stage at number = Reached (rows count roles) text at number stage typing
 
 abbrev μ-loop : tie.MeasureT-loop
-μ-loop text roles count end typing₀ stage₀ at₀ number₀ typing stage at number = length text - at
+μ-loop text roles count none end typing₀ stage₀ at₀ number₀ typing stage at number = length text - at
 
 refused-requires : tie.Need-refused-requires Inv-loop μ-loop
-refused-requires c κs = search needs
+refused-requires c κs = c .before .no-typing .ensures
 
 returns : tie.Need-returns Inv-loop μ-loop
 returns c = c .refused .ensures ∙ refused-long _ _ (c .before .if1 .taken)
@@ -29,13 +29,13 @@ no-typing-requires : tie.Need-no-typing-requires Inv-loop μ-loop
 no-typing-requires c κs = search needs
 
 loop-holds : tie.Need-loop-holds Inv-loop μ-loop
-loop-holds c = reached-start _ _ (c .before .if1 .left) (c .no-typing .ensures)
+loop-holds c = reached-start _ _ (c .if1 .left) (c .before .no-typing .ensures)
 
 seek-requires : tie.Need-seek-requires Inv-loop μ-loop
 seek-requires c κs = (c .before .loop .inv) .on .within
 
 refused-requires-2 : tie.Need-refused-requires-2 Inv-loop μ-loop
-refused-requires-2 c κs = search needs
+refused-requires-2 c κs = c .before .before .before .before .before .no-typing .ensures
 
 returns-2 : tie.Need-returns-2 Inv-loop μ-loop
 returns-2 c = c .refused2 .ensures ∙ reached-tail (c .before .before .before .before .loop .inv) (c .before .before .seek .ensures) (c .before .if2 .taken)
@@ -68,7 +68,7 @@ code-requires : tie.Need-code-requires Inv-loop μ-loop
 code-requires c κs = search needs
 
 refused-requires-3 : tie.Need-refused-requires-3 Inv-loop μ-loop
-refused-requires-3 c κs = search needs
+refused-requires-3 c κs = c .before .before .before .before .before .before .before .before .before .before .no-typing .ensures
 
 returns-3 : tie.Need-returns-3 Inv-loop μ-loop
 unfolding codeOf
@@ -117,7 +117,7 @@ enum-told-3 : tie.Need-enum-told-3 Inv-loop μ-loop
 enum-told-3 c = search needs
 
 refused-requires-4 : tie.Need-refused-requires-4 Inv-loop μ-loop
-refused-requires-4 c κs = search needs
+refused-requires-4 c κs = c .before .before .before .before .before .before .before .before .before .before .before .before .before .no-typing .ensures
 
 returns-4 : tie.Need-returns-4 Inv-loop μ-loop
 returns-4 c = c .refused4 .ensures ∙ line-more (c .before .before .before .before .before .before .before .before .before .before .before .before .loop .inv) (c .before .before .before .before .before .before .before .before .before .before .seek .ensures) (omega (arith, c .before .before .before .before .before .before .before .before .before .before .seek .ensures, c .before .before .before .before .before .before .before .before .before .if2 .left)) (c .before .before .before .before .before .before .before .read-line .ensures) (c .before .before .before .before .before .answer .given .1 ∙ ap TypingLine.Good (c .before .before .enum-told3 .given .1)) (c .before .if3 .taken)
@@ -126,7 +126,7 @@ returns-5 : tie.Need-returns-5 Inv-loop μ-loop
 returns-5 c = line-last (c .before .before .before .before .before .before .before .before .before .before .before .loop .inv) (c .before .before .before .before .before .before .before .before .before .seek .ensures) (omega (arith, c .before .before .before .before .before .before .before .before .before .seek .ensures, c .before .before .before .before .before .before .before .before .if2 .left)) (c .before .before .before .before .before .before .read-line .ensures) (c .before .before .before .before .answer .given .1 ∙ ap TypingLine.Good (c .before .enum-told3 .given .1)) (c .if3 .left)
 
 refused-requires-5 : tie.Need-refused-requires-5 Inv-loop μ-loop
-refused-requires-5 c κs = search needs
+refused-requires-5 c κs = c .before .before .before .no-typing .ensures
 
 returns-6 : tie.Need-returns-6 Inv-loop μ-loop
 returns-6 c = c .refused5 .ensures ∙ reached-end (c .before .before .loop .inv) (c .before .loop-test .left)
@@ -137,9 +137,9 @@ read-typing-spec =
     (tie.spec
     Inv-loop
     μ-loop
+    no-typing-requires
     refused-requires
     returns
-    no-typing-requires
     loop-holds
     seek-requires
     refused-requires-2
