@@ -33,11 +33,11 @@ pub fn sum_of(t: Typing, u: Typing) -> Typing
     let mut s = t;
     let mut role = 0;
     while role < 128 {
-        let plus = t.plus[role];
+        let plus = s.plus[role];
         let more = u.plus[role];
-        let minus = t.minus[role];
+        let minus = s.minus[role];
         let less = u.minus[role];
-        s.labels[role] = t.labels[role] | u.labels[role];
+        s.labels[role] = s.labels[role] | u.labels[role];
         s.plus[role] = plus.union(more);
         s.minus[role] = minus.union(less);
         role += 1;
