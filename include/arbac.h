@@ -3,23 +3,29 @@
 
    Every slice is two arguments, where it begins and how many elements it has. A pointer is never null, not even where the
    length is 0, and numbers stand at addresses divisible by 8. No text is changed, and texts may overlap each other. What is
-   written, a buffer of bytes or an array of numbers, overlaps nothing else of the same call.
+   written, a buffer of bytes, an array of numbers or memory, overlaps nothing else of the same call.
 
    Nothing else is asked: every text of every length has an answer. No function keeps anything between calls, allocates or
-   prints, so calls from several threads do not meet. A call takes less than 512 KB of stack.
+   prints, so calls from several threads do not meet. A call takes less stack than ARBAC_STACK and the numbers beside it say.
+
+   Beside each function stands one whose name ends in `_in`: it answers and writes the same, and works in memory that is lent to
+   it as its last slice, so it is faster and takes less stack. The memory has ARBAC_MEMORY words, for a merge ARBAC_MERGE_MEMORY,
+   or more. It may hold anything before the call, holds nothing of use after it, and may be lent again, though never to two calls
+   at once.
 
    WHAT WAS ANSWERED IS THE NUMBER THAT A FUNCTION RETURNS, AND NOTHING ELSE SAYS IT. NO ARRAY AND NO BUFFER TELLS WHICH ANSWER
-   IT BELONGS TO: LOOK AT THE NUMBER FIRST. ARBAC_NO_ROOM IS NO ANSWER: THE ARRAY WAS TOO SHORT, NOTHING WAS JUDGED AND NOTHING
-   WAS WRITTEN. A POLICY IS SAFE ONLY WHERE `arbac_check` RETURNS ARBAC_SAFE.
+   IT BELONGS TO: LOOK AT THE NUMBER FIRST. ARBAC_NO_ROOM AND ARBAC_NO_MEMORY ARE NO ANSWERS: THE ARRAY OR THE MEMORY WAS TOO
+   SHORT, NOTHING WAS JUDGED AND NOTHING WAS WRITTEN. A POLICY IS SAFE ONLY WHERE `arbac_check` OR `arbac_check_in` RETURNS
+   ARBAC_SAFE.
 
-   After every number but ARBAC_NO_ROOM all values of the array are told, as many as its size below says: those that are listed
-   for the answer, in that order, and zeros past them. Past its size the array keeps what it had.
+   After every number but ARBAC_NO_ROOM and ARBAC_NO_MEMORY all values of the array are told, as many as its size below says:
+   those that are listed for the answer, in that order, and zeros past them. Past its size the array keeps what it had.
 
    `out` of the sum and the merge holds a text after ARBAC_DONE only, and past the text it keeps what it had. After every other
-   number, ARBAC_NO_ROOM among them, all of it is as it was.
+   number, ARBAC_NO_ROOM and ARBAC_NO_MEMORY among them, all of it is as it was.
 
-   `arbac_check_line` RETURNS A LENGTH, AND NOT AN ANSWER'S NUMBER. FROM IT ALONE 0 SAYS THAT THE BUFFER WAS TOO SHORT, and then
-   nothing was written.
+   `arbac_check_line` AND `arbac_check_line_in` RETURN A LENGTH, AND NOT AN ANSWER'S NUMBER. FROM THEM ALONE 0 SAYS THAT THE
+   BUFFER OR THE MEMORY WAS TOO SHORT, and then no line was written.
 
    A line is counted from 1, and is 0 for 10, 14, 17, 18 and 19. Users, rules, goals and steps are counted from 1. */
 #ifndef ARBAC_H
@@ -34,6 +40,9 @@ extern "C" {
 
 /* The array was too short: this is no answer and no text. */
 #define ARBAC_NO_ROOM 255
+
+/* The memory was too short: this is no answer and no text. The array is looked at first. */
+#define ARBAC_NO_MEMORY 254
 
 /* The verdicts on a piece of evidence. */
 #define ARBAC_SAFE 0
@@ -91,6 +100,18 @@ extern "C" {
 #define ARBAC_MERGE 6
 #define ARBAC_TEXT 32768
 
+/* How many words of memory a call needs, and a merge. */
+#define ARBAC_MEMORY 3072
+#define ARBAC_MERGE_MEMORY 6144
+
+/* A call takes fewer bytes of stack than this, a merge fewer than the second. */
+#define ARBAC_STACK 98304
+#define ARBAC_MERGE_STACK 131072
+
+/* The same in lent memory: a call, and a sum or a merge. */
+#define ARBAC_LENT_STACK 32768
+#define ARBAC_LENT_MERGE_STACK 49152
+
 /* Judges a piece of evidence, a typing or a trace, over a policy.
 
      ARBAC_SAFE       roles, assign rules, revoke rules, goals, pinned names
@@ -104,11 +125,23 @@ uint64_t arbac_check(const uint8_t *policy, size_t policy_length,
                      const uint8_t *evidence, size_t evidence_length,
                      uint64_t *values, size_t values_length);
 
+/* The same in lent memory; ARBAC_NO_MEMORY and nothing, where memory_length is below ARBAC_MEMORY. */
+uint64_t arbac_check_in(const uint8_t *policy, size_t policy_length,
+                        const uint8_t *evidence, size_t evidence_length,
+                        uint64_t *values, size_t values_length,
+                        uint64_t *memory, size_t memory_length);
+
 /* The same answer as the line that the program `check` prints, fields parted by tabs, with its LF and no NUL. Returns its
    length; 0, and nothing is written, where line_length is below that. */
 size_t arbac_check_line(const uint8_t *policy, size_t policy_length,
                         const uint8_t *evidence, size_t evidence_length,
                         uint8_t *line, size_t line_length);
+
+/* The same in lent memory; 0, and nothing is written, also where memory_length is below ARBAC_MEMORY. */
+size_t arbac_check_line_in(const uint8_t *policy, size_t policy_length,
+                           const uint8_t *evidence, size_t evidence_length,
+                           uint8_t *line, size_t line_length,
+                           uint64_t *memory, size_t memory_length);
 
 /* Where the bad line stands that 11, 12, 13, 15 or 16 of `arbac_check` speak of.
 
@@ -122,12 +155,24 @@ uint64_t arbac_bad_line(const uint8_t *policy, size_t policy_length,
                         const uint8_t *evidence, size_t evidence_length,
                         uint64_t *place, size_t place_length);
 
-/* The same of a policy and a text where a typing is wanted, which is read as a typing whatever its first line: the bad line of a
-   typing that a sum or a merge refuses with 15 or 16, over the policy that it is read over, or of a policy that they refuse with
-   11, 12 or 13. A trace there is bad at line 1. */
+/* The same in lent memory; ARBAC_NO_MEMORY and nothing, where memory_length is below ARBAC_MEMORY. */
+uint64_t arbac_bad_line_in(const uint8_t *policy, size_t policy_length,
+                           const uint8_t *evidence, size_t evidence_length,
+                           uint64_t *place, size_t place_length,
+                           uint64_t *memory, size_t memory_length);
+
+/* As arbac_bad_line, of a policy and a text where a typing is wanted, which is read as a typing whatever its first line: the bad
+   line of a typing that a sum or a merge refuses with 15 or 16, over the policy that it is read over, or of a policy that they
+   refuse with 11, 12 or 13. A trace there is bad at line 1. */
 uint64_t arbac_bad_typing_line(const uint8_t *policy, size_t policy_length,
                                const uint8_t *typing, size_t typing_length,
                                uint64_t *place, size_t place_length);
+
+/* The same in lent memory; ARBAC_NO_MEMORY and nothing, where memory_length is below ARBAC_MEMORY. */
+uint64_t arbac_bad_typing_line_in(const uint8_t *policy, size_t policy_length,
+                                  const uint8_t *typing, size_t typing_length,
+                                  uint64_t *place, size_t place_length,
+                                  uint64_t *memory, size_t memory_length);
 
 /* Writes the sum of two typings over one policy, accepted or not, as a typing text.
 
@@ -140,6 +185,14 @@ uint64_t arbac_sum(const uint8_t *policy, size_t policy_length,
                    const uint8_t *second, size_t second_length,
                    uint8_t *out, size_t out_length,
                    uint64_t *values, size_t values_length);
+
+/* The same in lent memory; ARBAC_NO_MEMORY and nothing, where memory_length is below ARBAC_MEMORY. */
+uint64_t arbac_sum_in(const uint8_t *policy, size_t policy_length,
+                      const uint8_t *first, size_t first_length,
+                      const uint8_t *second, size_t second_length,
+                      uint8_t *out, size_t out_length,
+                      uint64_t *values, size_t values_length,
+                      uint64_t *memory, size_t memory_length);
 
 /* Merges two policies over the same users and roles, each with a typing of its own, and writes the sum of the typings, which
    is accepted for all rules and goals together.
@@ -155,6 +208,15 @@ uint64_t arbac_merge(const uint8_t *policy_1, size_t policy_1_length,
                      const uint8_t *typing_2, size_t typing_2_length,
                      uint8_t *out, size_t out_length,
                      uint64_t *values, size_t values_length);
+
+/* The same in lent memory; ARBAC_NO_MEMORY and nothing, where memory_length is below ARBAC_MERGE_MEMORY. */
+uint64_t arbac_merge_in(const uint8_t *policy_1, size_t policy_1_length,
+                        const uint8_t *typing_1, size_t typing_1_length,
+                        const uint8_t *policy_2, size_t policy_2_length,
+                        const uint8_t *typing_2, size_t typing_2_length,
+                        uint8_t *out, size_t out_length,
+                        uint64_t *values, size_t values_length,
+                        uint64_t *memory, size_t memory_length);
 
 #ifdef __cplusplus
 }

@@ -1,6 +1,7 @@
-//! `bench FOLDER`: how long the library and the reference take for the same texts, how the times
-//! grow with the number of roles, and how much stack a call takes. FOLDER has the desk and the
-//! hostile texts. Status 1 where the two answer differently.
+//! `bench FOLDER`: how long the library, without lent memory and in it, and the reference take for
+//! the same texts, how the times grow with the number of roles, and how much stack a call takes.
+//! FOLDER has the desk and the hostile texts. Status 1 where they answer differently, and where a
+//! call takes more stack than the header promises.
 
 use std::collections::BTreeSet;
 use std::path::Path;
@@ -9,6 +10,9 @@ use std::time::{Duration, Instant};
 #[allow(dead_code)]
 #[path = "../differential/answers.rs"]
 mod answers;
+#[allow(dead_code)]
+#[path = "../differential/chance.rs"]
+mod chance;
 #[path = "../differential/drafts.rs"]
 mod drafts;
 #[path = "../differential/library.rs"]
@@ -20,7 +24,10 @@ mod stack;
 mod texts;
 
 use answers::Said;
-use texts::{desks, every_place, full, halves, read_only, sum_of, trace, Closing, Input};
+use chance::Chance;
+use library::Memory;
+use texts::{crowded, every_place, full, halves, read_only, sum_of, trace, twice};
+use texts::{Closing, Input, TEXT_LIMIT};
 
 /// A time is the median of at least this many calls.
 const CALLS: usize = 9;
@@ -28,7 +35,8 @@ const CALLS: usize = 9;
 /// More calls are made until they took this long together.
 const LONG_ENOUGH: Duration = Duration::from_millis(200);
 
-const TEXT_LIMIT: usize = 32_768;
+/// What C callers are promised.
+const HEADER: &str = include_str!("../../include/arbac.h");
 
 /// The place of the full policy that is only read, among the inputs of check.
 const READ_ONLY: usize = 1;
@@ -49,14 +57,23 @@ const HOSTILE: [(&str, &str); 8] = [
 struct Lent {
     values: [u64; answers::MERGE],
     out: Vec<u8>,
+    /// Each call gets as much of it as it needs, as the call before left it.
+    memory: Option<Vec<u64>>,
     answered: u64,
 }
 
 impl Lent {
-    fn new() -> Lent {
-        Lent { values: [0; answers::MERGE], out: vec![0; TEXT_LIMIT], answered: 0 }
+    fn without_memory() -> Lent {
+        Lent { values: [0; answers::MERGE], out: vec![0; TEXT_LIMIT], memory: None, answered: 0 }
     }
 
+    fn with_memory() -> Lent {
+        let mut chance = Chance::of(1, 1);
+        let memory = (0..answers::MERGE_MEMORY).map(|_| chance.number()).collect();
+        Lent { memory: Some(memory), ..Lent::without_memory() }
+    }
+
+    /// Clears what the answer goes into.
     fn clear(&mut self) {
         self.values.fill(0);
         self.out.fill(0);
@@ -70,14 +87,23 @@ impl Lent {
     }
 }
 
+/// So many words of memory, where there is some.
+fn words(memory: &mut Option<Vec<u64>>, count: usize) -> Memory {
+    memory.as_mut().map(|memory| &mut memory[..count])
+}
+
 fn ask_library(texts: &[Vec<u8>], lent: &mut Lent) {
-    lent.answered = match texts {
-        [policy, evidence] => library::check(policy, evidence, &mut lent.values),
+    let Lent { values, out, memory, answered } = lent;
+    *answered = match texts {
+        [policy, evidence] => {
+            library::check(policy, evidence, values, words(memory, answers::MEMORY))
+        }
         [policy, first, second] => {
-            library::sum(policy, first, second, &mut lent.out, &mut lent.values)
+            library::sum(policy, first, second, out, values, words(memory, answers::MEMORY))
         }
         [policy_1, typing_1, policy_2, typing_2] => {
-            library::merge(policy_1, typing_1, policy_2, typing_2, &mut lent.out, &mut lent.values)
+            let memory = words(memory, answers::MERGE_MEMORY);
+            library::merge(policy_1, typing_1, policy_2, typing_2, out, values, memory)
         }
         _ => unreachable!("two texts, three or four"),
     };
@@ -128,106 +154,250 @@ fn median<S>(state: &mut S, before: impl Fn(&mut S), call: impl Fn(&mut S)) -> D
 }
 
 struct Times {
-    /// The number of the answer, which is the same on both sides.
+    /// The number of the answer, which is the same on all sides.
     answer: u64,
     library: Duration,
+    in_memory: Duration,
     reference: Duration,
 }
 
-/// Both sides on one input, and a comparison of what they answer and write.
-fn times(input: &Input, lent: &mut Lent) -> Times {
-    let library = median(lent, Lent::clear, |lent| ask_library(&input.texts, lent));
-    let mut answer = None;
-    let reference = median(
-        &mut answer,
-        |answer| *answer = None,
-        |answer| *answer = Some(ask_reference(&input.texts)),
-    );
-    let said = answer.expect("an answer").said();
-    if !lent.holds(&said) {
-        println!(
-            "{}: the library answers {} with {:?}, the reference {} with {:?}",
-            input.name, lent.answered, lent.values, said.answered, said.values
+/// The library without lent memory and in it.
+struct Library {
+    plain: Lent,
+    in_memory: Lent,
+}
+
+impl Library {
+    /// All sides on one input, and a comparison of what they answer and write.
+    fn times(&mut self, input: &Input) -> Times {
+        let ask = |lent: &mut Lent| ask_library(&input.texts, lent);
+        let library = median(&mut self.plain, Lent::clear, ask);
+        let in_memory = median(&mut self.in_memory, Lent::clear, ask);
+        let mut answer = None;
+        let reference = median(
+            &mut answer,
+            |answer| *answer = None,
+            |answer| *answer = Some(ask_reference(&input.texts)),
         );
-        std::process::exit(1);
+        let said = answer.expect("an answer").said();
+        for lent in [&self.plain, &self.in_memory] {
+            if !lent.holds(&said) {
+                println!(
+                    "{}: the library answers {} with {:?}, the reference {} with {:?}",
+                    input.name, lent.answered, lent.values, said.answered, said.values
+                );
+                std::process::exit(1);
+            }
+        }
+        Times {
+            answer: said.answered,
+            library: library,
+            in_memory: in_memory,
+            reference: reference,
+        }
     }
-    Times { answer: said.answered, library: library, reference: reference }
 }
 
 fn microseconds(time: Duration) -> String {
-    format!("{:.1}", time.as_secs_f64() * 1e6)
+    format!("{:.2}", time.as_secs_f64() * 1e6)
 }
 
 fn ratio(one: Duration, other: Duration) -> String {
     format!("{:.2}", one.as_secs_f64() / other.as_secs_f64())
 }
 
-fn print_times(inputs: &[Input], lent: &mut Lent) -> Vec<Times> {
-    println!("| texts | bytes | answer | library, µs | reference, µs | library / reference |");
-    println!("|---|---|---|---|---|---|");
+fn print_times(inputs: &[Input], library: &mut Library) -> Vec<Times> {
+    println!(
+        "| texts | bytes | answer | library, µs | in lent memory, µs | reference, µs \
+         | library / reference | in lent memory / reference |"
+    );
+    println!("|---|---|---|---|---|---|---|---|");
     let mut all = Vec::new();
     for input in inputs {
-        let times = times(input, lent);
+        let times = library.times(input);
         let bytes: Vec<String> = input.texts.iter().map(|text| text.len().to_string()).collect();
         println!(
-            "| {} | {} | {} | {} | {} | {} |",
+            "| {} | {} | {} | {} | {} | {} | {} | {} |",
             input.name,
             bytes.join(" + "),
             times.answer,
             microseconds(times.library),
+            microseconds(times.in_memory),
             microseconds(times.reference),
-            ratio(times.library, times.reference)
+            ratio(times.library, times.reference),
+            ratio(times.in_memory, times.reference)
         );
         all.push(times);
     }
     all
 }
 
-/// The library's time for each input as a multiple of its time for another one.
-fn print_multiples(inputs: &[Input], times: &[Times], one: Duration) {
-    println!("| texts | times the reading of a full policy |");
-    println!("|---|---|");
+/// The library's times for each input as multiples of its times for another one.
+fn print_multiples(inputs: &[Input], times: &[Times], one: &Times) {
+    println!("| texts | times the reading of a full policy | in lent memory |");
+    println!("|---|---|---|");
     for (input, times) in inputs.iter().zip(times) {
-        println!("| {} | {} |", input.name, ratio(times.library, one));
+        println!(
+            "| {} | {} | {} |",
+            input.name,
+            ratio(times.library, one.library),
+            ratio(times.in_memory, one.in_memory)
+        );
     }
 }
 
 /// Each row beside the one before it, which has half as many roles.
-fn print_growth(inputs: &[Input], lent: &mut Lent) {
-    println!("| texts | library, µs | times the row above | reference, µs | times the row above |");
-    println!("|---|---|---|---|---|");
+fn print_growth(inputs: &[Input], library: &mut Library) {
+    println!(
+        "| texts | library, µs | times the row above | in lent memory, µs | times the row above \
+         | reference, µs | times the row above |"
+    );
+    println!("|---|---|---|---|---|---|---|");
     let mut above: Option<Times> = None;
     for input in inputs {
-        let times = times(input, lent);
-        let (library, reference) = match &above {
-            Some(above) => {
-                (ratio(times.library, above.library), ratio(times.reference, above.reference))
-            }
-            None => (String::new(), String::new()),
+        let times = library.times(input);
+        let growth = |side: fn(&Times) -> Duration| {
+            let times_above = above.as_ref().map(|above| ratio(side(&times), side(above)));
+            format!("{} | {}", microseconds(side(&times)), times_above.unwrap_or_default())
         };
         println!(
-            "| {} | {} | {} | {} | {} |",
+            "| {} | {} | {} | {} |",
             input.name,
-            microseconds(times.library),
-            library,
-            microseconds(times.reference),
-            reference
+            growth(|times| times.library),
+            growth(|times| times.in_memory),
+            growth(|times| times.reference)
         );
         above = Some(times);
     }
 }
 
-/// The largest stack that a call takes over some inputs, and the input it takes it for.
-fn print_stack(call: &str, inputs: &[Input], ask: impl Fn(&[Vec<u8>], &mut Lent)) {
-    let mut lent = Lent::new();
+/// The number that the header gives a name.
+fn promised(name: &str) -> usize {
+    HEADER
+        .lines()
+        .filter_map(|line| line.strip_prefix("#define ")?.split_once(' '))
+        .find(|(defined, _)| *defined == name)
+        .and_then(|(_, number)| number.parse().ok())
+        .unwrap_or_else(|| panic!("a number called {} in the header", name))
+}
+
+/// What two functions are given, the second of which works in lent memory; and for each its name,
+/// and the name in the header of the stack that it takes less than.
+struct Call<'a> {
+    names: [&'static str; 2],
+    promises: [&'static str; 2],
+    inputs: &'a [Input],
+    ask: fn(&[Vec<u8>], &mut Lent),
+}
+
+/// Prints the largest stack that a call takes over its inputs, and the input it takes it for; tells
+/// where that is above the promise.
+fn print_stack(call: &Call, in_memory: bool) -> Option<String> {
+    let name = call.names[in_memory as usize];
+    let promise = call.promises[in_memory as usize];
+    let mut lent = if in_memory { Lent::with_memory() } else { Lent::without_memory() };
     let mut most = (0, "");
-    for input in inputs {
-        let taken = stack::taken(&mut || ask(&input.texts, &mut lent));
+    for input in call.inputs {
+        let taken = stack::taken(&mut || (call.ask)(&input.texts, &mut lent));
         if taken > most.0 {
             most = (taken, &input.name);
         }
     }
-    println!("| {} | {} | {} | {} |", call, inputs.len(), most.0, most.1);
+    let (taken, text) = most;
+    let promised = promised(promise);
+    println!("| {} | {} | {} | {} | {} |", name, call.inputs.len(), taken, promised, text);
+    let broken = format!(
+        "FAILED: {} takes {} bytes of stack for {}; {} promises less than {}",
+        name, taken, text, promise, promised
+    );
+    Some(broken).filter(|_| taken >= promised)
+}
+
+fn ask_line(texts: &[Vec<u8>], lent: &mut Lent) {
+    let memory = words(&mut lent.memory, answers::MEMORY);
+    lent.answered = library::check_line(&texts[0], &texts[1], &mut lent.out, memory) as u64;
+}
+
+fn ask_bad_line(texts: &[Vec<u8>], lent: &mut Lent) {
+    let memory = words(&mut lent.memory, answers::MEMORY);
+    lent.answered = library::bad_line(&texts[0], &texts[1], &mut lent.values, memory);
+}
+
+fn ask_bad_typing_line(texts: &[Vec<u8>], lent: &mut Lent) {
+    let memory = words(&mut lent.memory, answers::MEMORY);
+    lent.answered = library::bad_typing_line(&texts[0], &texts[1], &mut lent.values, memory);
+}
+
+/// Prints the stack of every function on ordinary texts and on the same with a hostile one in every
+/// place, and tells which promises are broken.
+fn print_stacks(checks: &[Input], merges: &[Input], hostile: &[(String, Vec<u8>)]) -> Vec<String> {
+    let sums: Vec<Input> = merges.iter().map(sum_of).collect();
+    let sums = every_place(&sums, hostile);
+    let checks = every_place(checks, hostile);
+    let merges = every_place(merges, hostile);
+    let promises = ["ARBAC_STACK", "ARBAC_LENT_STACK"];
+    let calls = [
+        Call {
+            names: ["check", "check_in"],
+            promises: promises,
+            inputs: &checks,
+            ask: ask_library,
+        },
+        Call {
+            names: ["check_line", "check_line_in"],
+            promises: promises,
+            inputs: &checks,
+            ask: ask_line,
+        },
+        Call {
+            names: ["bad_line", "bad_line_in"],
+            promises: promises,
+            inputs: &checks,
+            ask: ask_bad_line,
+        },
+        Call {
+            names: ["bad_typing_line", "bad_typing_line_in"],
+            promises: promises,
+            inputs: &checks,
+            ask: ask_bad_typing_line,
+        },
+        Call {
+            names: ["sum", "sum_in"],
+            promises: ["ARBAC_STACK", "ARBAC_LENT_MERGE_STACK"],
+            inputs: &sums,
+            ask: ask_library,
+        },
+        Call {
+            names: ["merge", "merge_in"],
+            promises: ["ARBAC_MERGE_STACK", "ARBAC_LENT_MERGE_STACK"],
+            inputs: &merges,
+            ask: ask_library,
+        },
+    ];
+    println!("| call | inputs | bytes of stack at most | promised below | for |");
+    println!("|---|---|---|---|---|");
+    let mut broken = Vec::new();
+    for in_memory in [false, true] {
+        broken.extend(calls.iter().filter_map(|call| print_stack(call, in_memory)));
+    }
+    broken
+}
+
+/// The hostile texts, each by its name, and a set of many names in every place of a policy and a
+/// typing where a set can stand: in the goal it is `names.policy`, in the plus set `names.typing`.
+fn hostile_texts(folder: &Path, policy: &[u8], typing: &[u8]) -> Vec<(String, Vec<u8>)> {
+    let files: BTreeSet<&str> = HOSTILE.iter().flat_map(|pair| [pair.0, pair.1]).collect();
+    let mut texts: Vec<(String, Vec<u8>)> =
+        files.into_iter().map(|name| (name.to_string(), read(folder, name))).collect();
+    let many = read(folder, "names.policy");
+    let names = many.split(|byte| b"\t\n".contains(byte)).max_by_key(|field| field.len());
+    let names = names.expect("a longest field");
+    for (set, text, line, field) in
+        [("positive", policy, 7, 2), ("negative", policy, 7, 3), ("minus", typing, 1, 3)]
+    {
+        texts.push((format!("names in a {} set", set), crowded(text, line, field, names)));
+    }
+    texts
 }
 
 fn read(folder: &Path, name: &str) -> Vec<u8> {
@@ -247,11 +417,12 @@ fn main() {
         std::process::exit(2);
     }
     let folder = Path::new(&arguments[0]);
-    let mut lent = Lent::new();
+    let mut library = Library { plain: Lent::without_memory(), in_memory: Lent::with_memory() };
 
-    let desk = Input::new("the desk", &[&read(folder, "desk.policy"), &read(folder, "t1.typing")]);
+    let desk = read(folder, "desk.policy");
+    let t1 = read(folder, "t1.typing");
     let check = [
-        desk,
+        Input::new("the desk", &[&desk, &t1]),
         // the place that `READ_ONLY` names
         read_only(128),
         full(128, Closing::OneRound),
@@ -259,6 +430,7 @@ fn main() {
         trace(2_000),
     ];
     let merge = [halves(128, Closing::OneRound), halves(128, Closing::ManyRounds)];
+    let sum: Vec<Input> = merge.iter().map(sum_of).collect();
     let hostile: Vec<Input> = HOSTILE
         .iter()
         .map(|(policy, evidence)| {
@@ -266,48 +438,42 @@ fn main() {
             Input::new(&name, &[&read(folder, policy), &read(folder, evidence)])
         })
         .collect();
+    let growth: Vec<Vec<Input>> = [Closing::OneRound, Closing::ManyRounds]
+        .iter()
+        .map(|&closing| [16, 32, 64, 128].iter().map(|&roles| full(roles, closing)).collect())
+        .collect();
 
     println!(
         "Each time is the median of {} calls or more. The lent array and buffer are cleared",
         CALLS
     );
     println!("before each call, which is not part of the time; what the reference allocates is.");
+    println!("Lent memory is noise at first, and for each call what the one before left in it.");
     println!("\n## Check\n");
-    let checked = print_times(&check, &mut lent);
+    let checked = print_times(&check, &mut library);
+    println!("\n## Sum\n");
+    print_times(&sum, &mut library);
     println!("\n## Merge\n");
-    print_times(&merge, &mut lent);
+    print_times(&merge, &mut library);
     println!("\n## Hostile texts\n");
-    let attacked = print_times(&hostile, &mut lent);
+    let attacked = print_times(&hostile, &mut library);
     println!();
-    print_multiples(&hostile, &attacked, checked[READ_ONLY].library);
+    print_multiples(&hostile, &attacked, &checked[READ_ONLY]);
 
     println!("\n## Growth with the number of roles\n");
-    for closing in [Closing::OneRound, Closing::ManyRounds] {
-        let inputs: Vec<Input> =
-            [16, 32, 64, 128].iter().map(|&roles| full(roles, closing)).collect();
-        print_growth(&inputs, &mut lent);
+    for inputs in &growth {
+        print_growth(inputs, &mut library);
         println!();
     }
 
     println!("## Stack\n");
-    println!("| call | inputs | bytes of stack at most | for |\n|---|---|---|---|");
-    let names: BTreeSet<&str> = HOSTILE.iter().flat_map(|pair| [pair.0, pair.1]).collect();
-    let texts: Vec<(&str, Vec<u8>)> =
-        names.into_iter().map(|name| (name, read(folder, name))).collect();
-    let desks = desks(&check[0]);
-    let merges = every_place(&[&desks, &merge[0], &merge[1]], &texts);
-    let sums = every_place(&[&sum_of(&desks), &sum_of(&merge[0]), &sum_of(&merge[1])], &texts);
-    let checks = every_place(&check.iter().collect::<Vec<_>>(), &texts);
-    print_stack("check", &checks, ask_library);
-    print_stack("check_line", &checks, |texts, lent| {
-        lent.answered = library::check_line(&texts[0], &texts[1], &mut lent.out) as u64;
-    });
-    print_stack("bad_line", &checks, |texts, lent| {
-        lent.answered = library::bad_line(&texts[0], &texts[1], &mut lent.values);
-    });
-    print_stack("bad_typing_line", &checks, |texts, lent| {
-        lent.answered = library::bad_typing_line(&texts[0], &texts[1], &mut lent.values);
-    });
-    print_stack("sum", &sums, ask_library);
-    print_stack("merge", &merges, ask_library);
+    let checks = [check.to_vec(), growth.concat()].concat();
+    let merges = [checks.iter().map(twice).collect(), merge.to_vec()].concat();
+    let broken = print_stacks(&checks, &merges, &hostile_texts(folder, &desk, &t1));
+    for broken in &broken {
+        println!("{}", broken);
+    }
+    if !broken.is_empty() {
+        std::process::exit(1);
+    }
 }

@@ -1,9 +1,11 @@
-//! The stack that a call takes: it runs in a thread on a painted stack, and the deepest byte that
+//! The stack that a call takes: it runs in a thread on a painted stack, and the deepest word that
 //! is changed afterwards says how far down the call went.
 
 use std::alloc::{alloc, dealloc, Layout};
 
-const SIZE: usize = 4 << 20;
+/// Far above every promise: a call that went past it would write into what is not its own.
+const SIZE: usize = 1 << 20;
+const WORDS: usize = SIZE / 8;
 
 /// As large as any C library's `pthread_attr_t`.
 #[repr(C, align(16))]
@@ -30,9 +32,9 @@ extern "C" fn start(argument: *mut u8) -> *mut u8 {
     std::ptr::null_mut()
 }
 
-/// The paint changes from byte to byte, so that no run of equal bytes looks like it.
-fn paint(place: usize) -> u8 {
-    (place.wrapping_mul(0x9e37_79b9) >> 16) as u8
+/// The paint changes from word to word, so that no run of equal words looks like it.
+fn paint(place: usize) -> u64 {
+    (place as u64 + 1).wrapping_mul(0x9e37_79b9_7f4a_7c15)
 }
 
 /// How many bytes from the top of a thread's stack down a call changes.
@@ -41,8 +43,9 @@ fn depth(mut call: Call) -> usize {
     unsafe {
         let stack = alloc(layout);
         assert!(!stack.is_null());
-        for place in 0..SIZE {
-            *stack.add(place) = paint(place);
+        let words = stack as *mut u64;
+        for place in 0..WORDS {
+            *words.add(place) = paint(place);
         }
         let mut attributes = Attributes([0; 512]);
         let mut thread = 0;
@@ -53,9 +56,9 @@ fn depth(mut call: Call) -> usize {
         assert_eq!(pthread_create(&mut thread, &attributes, start, argument), 0);
         assert_eq!(pthread_join(thread, &mut result), 0);
         assert_eq!(pthread_attr_destroy(&mut attributes), 0);
-        let kept = (0..SIZE).take_while(|&place| *stack.add(place) == paint(place)).count();
+        let kept = (0..WORDS).take_while(|&place| *words.add(place) == paint(place)).count();
         dealloc(stack, layout);
-        SIZE - kept
+        SIZE - 8 * kept
     }
 }
 

@@ -3,7 +3,10 @@
 
 use crate::drafts::{Assign, Policy, Revoke, RoleType, Step, User};
 
+pub const TEXT_LIMIT: usize = 32_768;
+
 /// Two texts for `check`, three for `sum`, or four for `merge`.
+#[derive(Clone)]
 pub struct Input {
     pub name: String,
     pub texts: Vec<Vec<u8>>,
@@ -15,8 +18,9 @@ impl Input {
     }
 }
 
-/// How a typing closes. In a chain every role but the first brings the next, and the last shuts
-/// itself out: what is held goes up the chain role by role, and what is absent comes down it again.
+/// How a typing closes. In many rounds it is by a chain of all low roles: each brings the next, and
+/// the last shuts itself out. What is held goes up the chain role by role, and what is absent comes
+/// down it again.
 #[derive(Clone, Copy)]
 pub enum Closing {
     OneRound,
@@ -28,7 +32,28 @@ fn name(kind: &str, place: usize) -> Vec<u8> {
     format!("{}_{:0>width$}", kind, place, width = 15 - kind.len()).into_bytes()
 }
 
-/// A ground in which the H users hold the first role, which administers every rule.
+/// One role in so many is high: it is held, administers and is revoked. The others are low: they are
+/// asked for and given.
+const HIGH: usize = 8;
+
+/// The high role that the rule of this number names. By this and by `low` the numbers in turn name
+/// every role, and numbers that follow each other name roles that stand apart.
+fn high(roles: usize, number: usize) -> usize {
+    5 * number % (roles / HIGH) * HIGH
+}
+
+/// How many roles are low.
+fn lows(roles: usize) -> usize {
+    roles - roles / HIGH
+}
+
+/// The low role that the rule of this number names.
+fn low(roles: usize, number: usize) -> usize {
+    let place = 5 * number % lows(roles);
+    place + place / (HIGH - 1) + 1
+}
+
+/// A ground in which the H users hold the high roles.
 fn ground(roles: usize) -> Policy {
     let users = roles / 2;
     Policy {
@@ -36,44 +61,46 @@ fn ground(roles: usize) -> Policy {
         users: (0..users)
             .map(|place| User { name: name("user", place), high: place % 2 == 0 })
             .collect(),
-        has: (0..users).step_by(2).map(|user| (user, 0)).collect(),
+        has: (0..users / 2).map(|number| (2 * number, high(roles, number))).collect(),
         assigns: Vec::new(),
         revokes: Vec::new(),
         goals: Vec::new(),
     }
 }
 
-/// Rules and goals in the proportions of the limits, or a half of them: all are about the second
-/// and the third role, at the foot of the chain.
+/// Rules and goals in the proportions of the limits, or a half of them, about all roles. An assign
+/// rule asks for the role that stands next above the one that it gives in the chain, so that what is
+/// held and what is absent meet late.
 fn fill(policy: &mut Policy, half: usize) {
     let roles = policy.roles.len();
-    for _ in 0..2 * roles / half {
+    for number in 0..2 * roles / half {
         policy.assigns.push(Assign {
-            admin: 0,
-            positive: vec![2],
+            admin: high(roles, number),
+            positive: vec![low(roles, number + 1)],
             negative: Vec::new(),
-            target: 1,
+            target: low(roles, number),
         });
-        policy.revokes.push(Revoke { admin: 0, target: 1 });
+        policy.revokes.push(Revoke { admin: high(roles, number), target: high(roles, number + 1) });
     }
-    for _ in 0..roles / 4 / half {
-        policy.goals.push(vec![1, 0]);
+    for number in 0..roles / 4 / half {
+        policy.goals.push(vec![low(roles, number), high(roles, number)]);
     }
 }
 
-/// Accepted for every policy of `fill`, so that every rule and every goal is judged.
+/// Accepted for every policy of `fill`, so that every rule and every goal is judged: no set has a
+/// high role.
 fn typing(roles: usize, closing: Closing) -> Vec<RoleType> {
-    (0..roles)
-        .map(|role| match closing {
-            Closing::ManyRounds if role + 1 == roles => {
-                RoleType { high: false, plus: Vec::new(), minus: vec![role] }
-            }
-            Closing::ManyRounds if role > 0 => {
-                RoleType { high: false, plus: vec![role + 1], minus: Vec::new() }
-            }
-            _ => RoleType { high: role == 0, plus: Vec::new(), minus: Vec::new() },
-        })
-        .collect()
+    let mut typing: Vec<RoleType> = (0..roles)
+        .map(|role| RoleType { high: role % HIGH == 0, plus: Vec::new(), minus: Vec::new() })
+        .collect();
+    if let Closing::ManyRounds = closing {
+        let last = lows(roles) - 1;
+        for number in 0..last {
+            typing[low(roles, number)].plus = vec![low(roles, number + 1)];
+        }
+        typing[low(roles, last)].minus = vec![low(roles, last)];
+    }
+    typing
 }
 
 fn words(closing: Closing) -> &'static str {
@@ -132,10 +159,11 @@ pub fn trace(steps: usize) -> Input {
     Input::new(&name, &[&policy.text(), &policy.trace_text(&trace)])
 }
 
-/// A policy and a typing merged with themselves.
-pub fn desks(desk: &Input) -> Input {
-    let (policy, typing) = (&desk.texts[0], &desk.texts[1]);
-    Input::new("two desks", &[policy, typing, policy, typing])
+/// A policy and a piece of evidence merged with themselves.
+pub fn twice(check: &Input) -> Input {
+    let (policy, evidence) = (&check.texts[0], &check.texts[1]);
+    let name = format!("{}, twice", check.name);
+    Input::new(&name, &[policy, evidence, policy, evidence])
 }
 
 /// The sum of the two typings of a merge, over its first policy.
@@ -144,11 +172,25 @@ pub fn sum_of(merge: &Input) -> Input {
     Input::new(&merge.name, &[&texts[0], &texts[1], &texts[3]])
 }
 
+/// A text with as many of these names as it has room for in one of its fields; lines and fields are
+/// counted from 0.
+pub fn crowded(text: &[u8], line: usize, field: usize, names: &[u8]) -> Vec<u8> {
+    let mut lines: Vec<Vec<&[u8]>> = text
+        .split(|&byte| byte == b'\n')
+        .map(|line| line.split(|&byte| byte == b'\t').collect())
+        .collect();
+    let room = TEXT_LIMIT + lines[line][field].len() - text.len();
+    let fits = names.len() <= room;
+    let last = names.iter().take(room + 1).rposition(|&byte| byte == b',');
+    lines[line][field] = if fits { names } else { &names[..last.expect("several names")] };
+    let lines: Vec<Vec<u8>> = lines.iter().map(|fields| fields.join(&b'\t')).collect();
+    lines.join(&b'\n')
+}
+
 /// Some inputs, and each of them with each hostile text in every place.
-pub fn every_place(ordinary: &[&Input], hostile: &[(&str, Vec<u8>)]) -> Vec<Input> {
-    let mut all = Vec::new();
+pub fn every_place(ordinary: &[Input], hostile: &[(String, Vec<u8>)]) -> Vec<Input> {
+    let mut all = ordinary.to_vec();
     for input in ordinary {
-        all.push(Input { name: input.name.clone(), texts: input.texts.clone() });
         for place in 0..input.texts.len() {
             for (name, text) in hostile {
                 let mut texts = input.texts.clone();

@@ -5,11 +5,18 @@ use crate::reference::{self, Answer, BadLine, Merge, Sum};
 /// What a call returns where the array is too short.
 const NO_ROOM: u64 = 255;
 
+/// What a call returns where the memory is too short.
+const NO_MEMORY: u64 = 254;
+
 /// How many values each call tells.
 pub const CHECK: usize = 5;
 pub const BAD_LINE: usize = 2;
 pub const SUM: usize = 2;
 pub const MERGE: usize = 6;
+
+/// How many words of memory each call needs, and a merge.
+pub const MEMORY: usize = 3072;
+pub const MERGE_MEMORY: usize = 6144;
 
 pub struct Said {
     /// What the call returns: the answer's number, the text's number or the length of a line.
@@ -26,7 +33,12 @@ impl Said {
         Said::values(NO_ROOM, 0, Vec::new())
     }
 
-    /// The buffer is too short for a line.
+    /// The memory is too short.
+    pub fn no_memory() -> Said {
+        Said::values(NO_MEMORY, 0, Vec::new())
+    }
+
+    /// The buffer or the memory is too short for a line.
     pub fn no_line() -> Said {
         Said::values(0, 0, Vec::new())
     }

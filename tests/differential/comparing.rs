@@ -1,11 +1,11 @@
-//! One case given to the library and to the reference: answers, lines, bad lines, every byte of the
-//! lent buffers and texts compared.
+//! One case given to the library, without lent memory and with it, and to the reference: answers,
+//! lines, bad lines, every byte of the lent buffers and texts compared.
 
 use crate::answers::{self, Said};
 use crate::cases::Case;
 use crate::chance::Chance;
 use crate::lent::{shown_array, shown_buffer, Lent, LentText};
-use crate::library;
+use crate::library::{self, Memory};
 use crate::making::widening::Width;
 use crate::reference::{self, Answer};
 use crate::rows;
@@ -48,12 +48,35 @@ const MERGE_ROOMS: Rooms = [
 const SUM_ABOVE: &str = "sum buffer with room for a text above 32,768 bytes";
 const MERGE_ABOVE: &str = "merge buffer with room for a text above 32,768 bytes";
 
-/// A call that tells values: the least array that it tells them in, and the rows for shorter ones.
+/// A function that works in lent memory: the least memory that it needs, and the rows for memory that
+/// is exact, longer, one word short, shorter, empty.
+struct InMemory {
+    call: &'static str,
+    least: usize,
+    lengths: Rooms,
+}
+
+const LINE_IN: InMemory = InMemory {
+    call: "arbac_check_line_in",
+    least: answers::MEMORY,
+    lengths: [
+        "line memory exact",
+        "line memory longer",
+        "line memory one word short",
+        "line memory shorter",
+        "line memory empty",
+    ],
+};
+
+/// A call that tells values: the least array that it tells them in, the rows for shorter ones, and
+/// the same call in lent memory, with the row for an array that is too short there.
 struct Told {
     call: &'static str,
     least: usize,
     one_short: &'static str,
     shorter: &'static str,
+    in_memory: InMemory,
+    short_in_memory: &'static str,
 }
 
 const CHECK: Told = Told {
@@ -61,34 +84,126 @@ const CHECK: Told = Told {
     least: answers::CHECK,
     one_short: "check array one number short",
     shorter: "check array shorter",
+    in_memory: InMemory {
+        call: "arbac_check_in",
+        least: answers::MEMORY,
+        lengths: [
+            "check memory exact",
+            "check memory longer",
+            "check memory one word short",
+            "check memory shorter",
+            "check memory empty",
+        ],
+    },
+    short_in_memory: "check array too short beside memory",
 };
 const BAD_LINE: Told = Told {
     call: "arbac_bad_line",
     least: answers::BAD_LINE,
     one_short: "bad line array one number short",
     shorter: "bad line array shorter",
+    in_memory: InMemory {
+        call: "arbac_bad_line_in",
+        least: answers::MEMORY,
+        lengths: [
+            "bad line memory exact",
+            "bad line memory longer",
+            "bad line memory one word short",
+            "bad line memory shorter",
+            "bad line memory empty",
+        ],
+    },
+    short_in_memory: "bad line array too short beside memory",
 };
 const BAD_TYPING_LINE: Told = Told {
     call: "arbac_bad_typing_line",
     least: answers::BAD_LINE,
     one_short: "bad typing line array one number short",
     shorter: "bad typing line array shorter",
+    in_memory: InMemory {
+        call: "arbac_bad_typing_line_in",
+        least: answers::MEMORY,
+        lengths: [
+            "bad typing line memory exact",
+            "bad typing line memory longer",
+            "bad typing line memory one word short",
+            "bad typing line memory shorter",
+            "bad typing line memory empty",
+        ],
+    },
+    short_in_memory: "bad typing line array too short beside memory",
 };
 const SUM: Told = Told {
     call: "arbac_sum",
     least: answers::SUM,
     one_short: "sum array one number short",
     shorter: "sum array shorter",
+    in_memory: InMemory {
+        call: "arbac_sum_in",
+        least: answers::MEMORY,
+        lengths: [
+            "sum memory exact",
+            "sum memory longer",
+            "sum memory one word short",
+            "sum memory shorter",
+            "sum memory empty",
+        ],
+    },
+    short_in_memory: "sum array too short beside memory",
 };
 const MERGE: Told = Told {
     call: "arbac_merge",
     least: answers::MERGE,
     one_short: "merge array one number short",
     shorter: "merge array shorter",
+    in_memory: InMemory {
+        call: "arbac_merge_in",
+        least: answers::MERGE_MEMORY,
+        lengths: [
+            "merge memory exact",
+            "merge memory longer",
+            "merge memory one word short",
+            "merge memory shorter",
+            "merge memory empty",
+        ],
+    },
+    short_in_memory: "merge array too short beside memory",
 };
 
-/// The library's function on the texts of the case: it gets the lent buffer and the lent array.
-type Call<'a> = &'a dyn Fn(&mut [u8], &mut [u64]) -> u64;
+/// The library's function on the texts of the case: it gets the lent buffer, the lent array and the
+/// lent memory.
+type Call<'a> = &'a dyn Fn(&mut [u8], &mut [u64], Memory) -> u64;
+
+/// What is lent for one call beside the texts: an array and a buffer of such lengths, and perhaps
+/// memory.
+#[derive(Clone, Copy)]
+struct Lending {
+    array: usize,
+    room: usize,
+    memory: Option<Words>,
+}
+
+/// How many words of memory, and whether the call may change them.
+#[derive(Clone, Copy)]
+struct Words {
+    count: usize,
+    may_change: bool,
+}
+
+impl Lending {
+    fn without_memory(array: usize, room: usize) -> Lending {
+        Lending { array: array, room: room, memory: None }
+    }
+
+    fn with_memory(self, count: usize) -> Lending {
+        Lending { memory: Some(Words { count: count, may_change: true }), ..self }
+    }
+
+    /// With memory that the call leaves as it is, because the array or the memory is too short.
+    fn with_idle_memory(self, count: usize) -> Lending {
+        Lending { memory: Some(Words { count: count, may_change: false }), ..self }
+    }
+}
 
 /// A buffer with room for every sum, also for one that is longer than a text may be.
 const AMPLE: usize = 1 << 20;
@@ -140,8 +255,8 @@ impl<'a> Comparing<'a> {
     fn check(&mut self, policy: &[u8], evidence: &[u8]) {
         let answer = reference::check(policy, evidence);
         self.count(rows::check(&answer));
-        self.told(&CHECK, 0, &Said::check(&answer), &|_, values| {
-            library::check(policy, evidence, values)
+        self.told(&CHECK, 0, &Said::check(&answer), &|_, values, memory| {
+            library::check(policy, evidence, values, memory)
         });
         if self.chance.one_in(2) {
             self.line(policy, evidence, &answer);
@@ -160,24 +275,26 @@ impl<'a> Comparing<'a> {
         if said.text.len() > room {
             said = Said::no_line();
         }
-        self.call("arbac_check_line", 0, room, &said, &|line, _| {
-            library::check_line(policy, evidence, line) as u64
-        });
+        let lending = Lending::without_memory(0, room);
+        let call: Call =
+            &|line, _, memory| library::check_line(policy, evidence, line, memory) as u64;
+        self.call("arbac_check_line", lending, &said, call);
+        self.in_memory(&LINE_IN, lending, &said, &Said::no_line(), call);
     }
 
     fn bad_line(&mut self, policy: &[u8], evidence: &[u8], answer: &Answer) {
         let bad = reference::bad_line(policy, evidence);
         self.count(rows::bad_line(answer, &bad));
-        self.told(&BAD_LINE, 0, &Said::bad_line(&bad), &|_, place| {
-            library::bad_line(policy, evidence, place)
+        self.told(&BAD_LINE, 0, &Said::bad_line(&bad), &|_, place, memory| {
+            library::bad_line(policy, evidence, place, memory)
         });
     }
 
     fn bad_typing_line(&mut self, policy: &[u8], typing: &[u8]) {
         let bad = reference::bad_typing_line(policy, typing);
         self.count(rows::bad_typing_line(typing, &bad));
-        self.told(&BAD_TYPING_LINE, 0, &Said::bad_line(&bad), &|_, place| {
-            library::bad_typing_line(policy, typing, place)
+        self.told(&BAD_TYPING_LINE, 0, &Said::bad_line(&bad), &|_, place, memory| {
+            library::bad_typing_line(policy, typing, place, memory)
         });
     }
 
@@ -186,8 +303,8 @@ impl<'a> Comparing<'a> {
         let room = self.room_for(&ample, SUM_ROOMS, SUM_ABOVE);
         let answer = reference::sum(policy, first, second, room);
         self.count(rows::sum(&answer));
-        self.told(&SUM, room, &Said::sum(&answer), &|out, values| {
-            library::sum(policy, first, second, out, values)
+        self.told(&SUM, room, &Said::sum(&answer), &|out, values, memory| {
+            library::sum(policy, first, second, out, values, memory)
         });
     }
 
@@ -196,8 +313,8 @@ impl<'a> Comparing<'a> {
         let room = self.room_for(&ample, MERGE_ROOMS, MERGE_ABOVE);
         let answer = reference::merge(policy_1, typing_1, policy_2, typing_2, room);
         self.count(rows::merge(&answer));
-        self.told(&MERGE, room, &Said::merge(&answer), &|out, values| {
-            library::merge(policy_1, typing_1, policy_2, typing_2, out, values)
+        self.told(&MERGE, room, &Said::merge(&answer), &|out, values, memory| {
+            library::merge(policy_1, typing_1, policy_2, typing_2, out, values, memory)
         });
     }
 
@@ -229,24 +346,58 @@ impl<'a> Comparing<'a> {
         }
     }
 
-    /// The call with an array that is long enough, and now and then once more with one that is not:
-    /// nothing is then told or written.
+    /// The call with an array that is long enough, without memory and in it; and now and then once
+    /// more with an array that is not: nothing is then told or written, whatever the memory.
     fn told(&mut self, told: &Told, room: usize, wanted: &Said, call: Call) {
         let array = told.least + self.chance.pick(&[0, 0, 1, 5]);
-        self.call(told.call, array, room, wanted, call);
+        let lending = Lending::without_memory(array, room);
+        self.call(told.call, lending, wanted, call);
+        self.in_memory(&told.in_memory, lending, wanted, &Said::no_memory(), call);
         if self.chance.one_in(16) {
             let one_short = self.chance.one_in(2);
             self.count(if one_short { told.one_short } else { told.shorter });
             let array = if one_short { told.least - 1 } else { self.chance.below(told.least - 1) };
-            self.call(told.call, array, room, &Said::no_room(), call);
+            let lending = Lending::without_memory(array, room);
+            self.call(told.call, lending, &Said::no_room(), call);
+            self.count(told.short_in_memory);
+            let least = told.in_memory.least;
+            let lending = lending.with_idle_memory(self.chance.pick(&[0, least - 1, least]));
+            self.call(told.in_memory.call, lending, &Said::no_room(), call);
+        }
+    }
+
+    /// The call in memory that is long enough, and now and then once more in memory that is not.
+    fn in_memory(
+        &mut self,
+        lent: &InMemory,
+        lending: Lending,
+        wanted: &Said,
+        without: &Said,
+        call: Call,
+    ) {
+        let kind = self.chance.below(2);
+        self.count(lent.lengths[kind]);
+        let count = lent.least + kind * self.chance.between(1, 40);
+        self.call(lent.call, lending.with_memory(count), wanted, call);
+        if self.chance.one_in(8) {
+            let kind = self.chance.between(2, 4);
+            self.count(lent.lengths[kind]);
+            let count = match kind {
+                2 => lent.least - 1,
+                3 => self.chance.between(1, lent.least - 2),
+                _ => 0,
+            };
+            self.call(lent.call, lending.with_idle_memory(count), without, call);
         }
     }
 
     /// One call, with all that is lent as it is afterwards.
-    fn call(&mut self, name: &'static str, array: usize, room: usize, wanted: &Said, call: Call) {
-        let mut values: Lent<u64> = Lent::new(self.chance, array);
-        let mut buffer: Lent<u8> = Lent::new(self.chance, room);
-        let answered = call(buffer.part(), values.part());
+    fn call(&mut self, name: &'static str, lending: Lending, wanted: &Said, call: Call) {
+        let mut values: Lent<u64> = Lent::new(self.chance, lending.array);
+        let mut buffer: Lent<u8> = Lent::new(self.chance, lending.room);
+        let mut memory: Option<Lent<u64>> =
+            lending.memory.map(|words| Lent::memory(self.chance, words.count));
+        let answered = call(buffer.part(), values.part(), memory.as_mut().map(Lent::part));
         let wanted_values = values.with(&wanted.values);
         let wanted_buffer = buffer.with(&wanted.text);
         let same = answered == wanted.answered
@@ -261,6 +412,13 @@ impl<'a> Comparing<'a> {
                 shown(answered, &values.all, &buffer.all),
                 shown(wanted.answered, &wanted_values, &wanted_buffer),
             );
+        }
+        if let (Some(memory), Some(words)) = (memory, lending.memory) {
+            if !memory.is_kept_around() {
+                self.differ(name, "writes around memory\n".to_string(), "keeps it\n".to_string());
+            } else if !words.may_change && !memory.is_kept() {
+                self.differ(name, "changes memory\n".to_string(), "changes none\n".to_string());
+            }
         }
         for text in self.texts.iter().filter(|text| !text.is_kept()) {
             self.differ(name, format!("changes {}\n", text.name), "changes no text\n".to_string());

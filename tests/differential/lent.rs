@@ -1,16 +1,16 @@
-//! What is lent to the library: arrays and buffers that it writes into, and texts that it reads. On
-//! both sides of each stands something that is not lent.
+//! What is lent to the library: arrays, buffers and memory that it writes into, and texts that it
+//! reads. On both sides of each stands something that is not lent.
 
 use std::ops::Range;
 use std::ptr::read_volatile;
 
 use crate::chance::Chance;
 
-/// How many numbers of an array, or bytes of a buffer, stand before and behind the part that is
-/// lent.
+/// How many numbers of an array or of memory, or bytes of a buffer, stand before and behind the part
+/// that is lent.
 const AROUND: usize = 4;
 
-/// An array or a buffer.
+/// An array, a buffer or memory.
 pub struct Lent<T> {
     /// With what stands around the lent part.
     pub all: Vec<T>,
@@ -38,6 +38,26 @@ impl<T: Copy + From<u8>> Lent<T> {
         let mut wanted = self.as_lent.clone();
         wanted[AROUND..AROUND + start.len()].copy_from_slice(start);
         wanted
+    }
+}
+
+impl Lent<u64> {
+    /// Memory, which may hold anything: words at random, or small numbers, which look like counts
+    /// and places.
+    pub fn memory(chance: &mut Chance, length: usize) -> Lent<u64> {
+        let end = chance.pick(&[200, u64::MAX]);
+        let all: Vec<u64> = (0..length + 2 * AROUND).map(|_| chance.number() % end).collect();
+        Lent { as_lent: all.clone(), all: all }
+    }
+
+    pub fn is_kept(&self) -> bool {
+        self.all == self.as_lent
+    }
+
+    /// Whether what stands around the lent part is as it was.
+    pub fn is_kept_around(&self) -> bool {
+        let end = self.all.len() - AROUND;
+        self.all[..AROUND] == self.as_lent[..AROUND] && self.all[end..] == self.as_lent[end..]
     }
 }
 

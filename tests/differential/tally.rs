@@ -1,5 +1,5 @@
-//! The table of what was compared: how often each kind of answer, buffer and making occurred, and
-//! how often over 63 to 128 roles.
+//! The table of what was compared: how often each kind of answer, buffer, memory and making
+//! occurred, and how often over 63 to 128 roles.
 
 use std::collections::BTreeMap;
 
@@ -20,7 +20,7 @@ struct Section {
 }
 
 /// Every row of the table.
-const SECTIONS: [Section; 7] = [
+const SECTIONS: [Section; 8] = [
     Section {
         heading: "Answers of check",
         either_width: true,
@@ -140,6 +140,47 @@ const SECTIONS: [Section; 7] = [
             "sum array shorter",
             "merge array one number short",
             "merge array shorter",
+        ],
+    },
+    Section {
+        heading: "Lent memory",
+        either_width: true,
+        rows: &[
+            "check memory exact",
+            "check memory longer",
+            "check memory one word short",
+            "check memory shorter",
+            "check memory empty",
+            "line memory exact",
+            "line memory longer",
+            "line memory one word short",
+            "line memory shorter",
+            "line memory empty",
+            "bad line memory exact",
+            "bad line memory longer",
+            "bad line memory one word short",
+            "bad line memory shorter",
+            "bad line memory empty",
+            "bad typing line memory exact",
+            "bad typing line memory longer",
+            "bad typing line memory one word short",
+            "bad typing line memory shorter",
+            "bad typing line memory empty",
+            "sum memory exact",
+            "sum memory longer",
+            "sum memory one word short",
+            "sum memory shorter",
+            "sum memory empty",
+            "merge memory exact",
+            "merge memory longer",
+            "merge memory one word short",
+            "merge memory shorter",
+            "merge memory empty",
+            "check array too short beside memory",
+            "bad line array too short beside memory",
+            "bad typing line array too short beside memory",
+            "sum array too short beside memory",
+            "merge array too short beside memory",
         ],
     },
     Section {

@@ -12,21 +12,18 @@ use Rattle.tables.specs.NameLaws.{rows-length}
 use Rattle.model.specs.declared.Typing.{Typing as Table}
 use Rattle.walking.specs.Texts.{Reading, read, refused}
 use Rattle.lines.specs.declared.Counts.{Counts}
-use Rattle.reading.specs.declared.directory.Directory.{Directory}
-use Rattle.reading.specs.declared.policy.Rules.{Rules}
 use Rattle.reading.specs.Policy.{Said, countsOf, readPolicy}
-use Rattle.reading.specs.Told.{Told, counts-laid, roles-laid, users-laid, people-laid}
+use Rattle.reading.specs.Ledger.{ledgerSays}
+use Rattle.reading.specs.Told.{Told, roles-told}
 use Rattle.typings.specs.declared.TypingRead.{TypingRead}
 use Rattle.typings.specs.TypingText.{Typed, readTyping, tableOf, typingRead}
 use Rattle.typings.specs.TypingTold.{typing-told, typing-untold}
 use Rattle.typings.specs.Kind.{isTyping}
-use Rattle.judging.specs.Layout.{subject-laid}
 use Rattle.judging.specs.declared.Part.{Part}
 use Rattle.judging.specs.declared.TypingVerdict.{TypingVerdict}
-use Rattle.judging.specs.Verdict.{Subject, subjectOf, subjectIn, judgedTyping, pinnedNames}
+use Rattle.judging.specs.Verdict.{Subject, subjectOf, judgedTyping, pinnedNames}
 use Rattle.running.specs.declared.TraceVerdict.{TraceVerdict}
 use Rattle.running.specs.Verdict.{traceVerdict}
-use Rattle.running.specs.Layout.{arrays, saidOf, verdict-laid}
 use Rattle.answering.specs.declared.Answer.{Answer}
 use Rattle.answering.specs.declared.NamedAnswer.{NamedAnswer}
 use Rattle.answering.specs.Answers.{judgedAnswer, typingAnswer, traceAnswer, evidenceAnswer, answerAfter, answerOf, usersIn, nameAt}
@@ -109,7 +106,7 @@ module _ (policy evidence : List ℕ) where
   unfolding unnamedAnswer namedOver nameIn usersIn answerAfter
   policy-refused is = answer-after is
 
-  module _ {D : Directory} {R : Rules} (t : Told policy D R) where
+  module _ {c : Counts} {words : List ℕ} (t : Told policy c words) where
     -- by the kind of the evidence
     read-answer : {kind : Bool} → isTyping evidence ≡ kind
         → namedOver (t .said .users) (cond kind (typingAnswer (countsOf (t .said)) (subjectOf (t .said)) (readTyping (t .said .roles) evidence)) (traceAnswer (traceVerdict (t .said) evidence))) ≡ namedAnswer policy evidence
@@ -118,13 +115,14 @@ module _ (policy evidence : List ℕ) where
         ap (λ (b : Bool). namedOver (t .said .users) (cond b (typingAnswer (countsOf (t .said)) (subjectOf (t .said)) (readTyping (t .said .roles) evidence)) (traceAnswer (traceVerdict (t .said) evidence)))) (sym kind)
         ∙ answer-after (t .is)
 
-    pub over-typing : isTyping evidence ≡ true → unnamedAnswer (typingAnswer (R .counts) (subjectIn (D .persons) R) (readTyping (rows (R .counts .roles) (D .roles)) evidence)) ≡ namedAnswer policy evidence
-    over-typing kind =
-        ap₂ (λ (c : Counts) (names : List Name). unnamedAnswer (typingAnswer c (subjectIn (D .persons) R) (readTyping names evidence))) (counts-laid (t .laid)) (roles-laid (t .laid))
-        ∙ ap (λ (subject : Subject). unnamedAnswer (typingAnswer (countsOf (t .said)) subject (readTyping (t .said .roles) evidence))) (ap (subjectIn (D .persons)) (t .laid .rules) ∙ subject-laid (t .laid .sound) (people-laid (t .laid)))
+    pub over-typing : isTyping evidence ≡ true → {answer : Answer} → answer ≡ typingAnswer c (subjectOf (ledgerSays words c)) (readTyping (rows (c .roles) words) evidence) → unnamedAnswer answer ≡ namedAnswer policy evidence
+    over-typing kind given =
+        ap unnamedAnswer
+        (given ∙ ap₂ (λ (d : Counts) (names : List Name). typingAnswer d (subjectOf (ledgerSays words c)) (readTyping names evidence)) (t .counts) (roles-told t)
+        ∙ ap (λ (s : Said). typingAnswer (countsOf (t .said)) (subjectOf s) (readTyping (t .said .roles) evidence)) (t .says))
         ∙ typing-unnamed (t .said .users) (countsOf (t .said)) (subjectOf (t .said)) (readTyping (t .said .roles) evidence)
         ∙ read-answer kind
 
-    pub over-trace : {v : TraceVerdict} → v ≡ traceVerdict (saidOf (arrays (D .users) (D .persons) R)) evidence → isTyping evidence ≡ false → namedOver (rows (R .counts .users) (D .users)) (traceAnswer v) ≡ namedAnswer policy evidence
-    over-trace verdict kind =
-        ap₂ (λ (users : List Name) (v : TraceVerdict). namedOver users (traceAnswer v)) (users-laid (t .laid)) (verdict ∙ verdict-laid (t .laid) evidence) ∙ read-answer kind
+    pub over-trace : isTyping evidence ≡ false → {v : TraceVerdict} {users : List Name} → v ≡ traceVerdict (ledgerSays words c) evidence → users ≡ t .said .users → namedOver users (traceAnswer v) ≡ namedAnswer policy evidence
+    over-trace kind verdict named =
+        ap₂ (λ (names : List Name) (w : TraceVerdict). namedOver names (traceAnswer w)) named (verdict ∙ ap (λ (s : Said). traceVerdict s evidence) (t .says)) ∙ read-answer kind

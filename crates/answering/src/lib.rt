@@ -3,16 +3,24 @@ ghost use mathlib.Core.Path.{_≡_};
 ghost use Prim.Native.Nat.{_*_, _≤_};
 ghost use lib.ListN.{length};
 ghost use Rattle.tables.specs.Names.{rows};
-ghost use Rattle.answering.specs.Answers.{judgedAnswer, traceAnswer, answerOf, nameAt};
+ghost use Rattle.ledgers.specs.Ledger.{ledgerWords};
+ghost use Rattle.ledgers.specs.Memory.{noMemory, inMemory, Spared};
+ghost use Rattle.reading.specs.Ledger.{ledgerSays, Limited};
+ghost use Rattle.typings.specs.TypingText.{readTyping};
+ghost use Rattle.judging.specs.Verdict.{subjectOf};
+ghost use Rattle.answering.specs.declared.Answer.{Answer};
+ghost use Rattle.answering.specs.Answers.{judgedAnswer, typingAnswer, traceAnswer, answerOf, nameAt};
 ghost use Rattle.answering.specs.Named.{namedOver, unnamedAnswer, namedAnswer};
 use judging::Part;
 use judging::TypingVerdict;
 use judging::judge_typing;
 use judging::pinned;
+use ledgers::NO_MEMORY;
+use ledgers::USERS;
+use ledgers::WORDS;
 use lines::Counts;
 use model::Typing;
-use reading::directory::read_directory;
-use reading::policy::read_rules;
+use reading::read_policy;
 use running::TraceVerdict;
 use running::run_trace;
 use tables::Name;
@@ -87,31 +95,34 @@ fn traced(verdict: TraceVerdict, users: &[u64], count: usize) -> NamedAnswer
     }
 }
 
-// The answer to two texts: the directory is read, then the rules, then the evidence, and it is judged.
-fn answer_read(policy: &[u8], evidence: &[u8]) -> NamedAnswer
+// The answer to a typing text over the policy that a ledger says.
+fn typing_answer(evidence: &[u8], ledger: &[u64], c: Counts) -> Answer
+    requires { ⌜ (ledgerWords ≤ length (now ledger)) × Limited c ⌝ }
+    ensures { λ r. ⌜ r ≡ typingAnswer c (subjectOf (ledgerSays (now (ledger .entry)) c)) (readTyping (rows (c .roles) (now (ledger .entry))) (now (evidence .entry))) ⌝ }
+{
+    let read = read_typing(evidence, ledger, c.roles);
+    if read.refusal != 0 {
+        return Answer::Refused(read.refusal, read.line);
+    }
+    let t = read.typing;
+    judged(judge_typing(ledger, c, t), c, t)
+}
+
+// The answer to two texts, with a ledger to work in: the policy is read, then the evidence, and it is judged.
+fn answer_with(policy: &[u8], evidence: &[u8], ledger: &mut [u64]) -> NamedAnswer
+    requires { ⌜ ledgerWords ≤ length (now ledger) ⌝ }
     ensures { λ r. ⌜ r ≡ namedAnswer (now (policy .entry)) (now (evidence .entry)) ⌝ }
 {
-    let d = read_directory(policy);
-    if d.refusal != 0 {
-        return unnamed(Answer::Refused(d.refusal, d.line));
+    let p = read_policy(policy, ledger);
+    if p.refusal != 0 {
+        return unnamed(Answer::Refused(p.refusal, p.line));
     }
-    let r = read_rules(policy, &d.roles, &d.users, d.counts, d.at, d.line);
-    if r.refusal != 0 {
-        return unnamed(Answer::Refused(r.refusal, r.line));
-    }
-    let c = r.counts;
+    let c = p.counts;
     if is_typing(evidence) {
-        let read = read_typing(evidence, &d.roles, c.roles);
-        if read.refusal != 0 {
-            return unnamed(Answer::Refused(read.refusal, read.line));
-        }
-        let people = d.persons;
-        let t = read.typing;
-        return unnamed(judged(judge_typing(people, r, t), c, t));
+        return unnamed(typing_answer(evidence, ledger, c));
     }
-    let people = d.persons;
-    let verdict = run_trace(evidence, &d.users, people, r);
-    traced(verdict, &d.users, c.users)
+    let verdict = run_trace(evidence, ledger, c);
+    traced(verdict, &ledger[USERS..], c.users)
 }
 
 // The answer to a policy text and a piece of evidence, with the name of the user of whom it speaks. A policy that is too long or
@@ -125,7 +136,19 @@ pub fn named_answer(policy: &[u8], evidence: &[u8]) -> NamedAnswer
     if !text::begins_with(policy, b"arbac\t1\n") {
         return unnamed(Answer::Refused(11, 1));
     }
-    answer_read(policy, evidence)
+    let mut ledger = [0u64; WORDS];
+    answer_with(policy, evidence, &mut ledger)
+}
+
+// The same in lent memory, of which a ledger's words are needed.
+pub fn named_answer_in(policy: &[u8], evidence: &[u8], memory: &mut [u64]) -> NamedAnswer
+    ensures { λ r. ⌜ r ≡ inMemory ledgerWords (length (now (memory .entry))) (unnamedAnswer (Answer.Refused noMemory 0)) (namedAnswer (now (policy .entry)) (now (evidence .entry))) ⌝ }
+    ensures { λ _. ⌜ Spared ledgerWords (now (memory .entry)) (now (memory .exit)) ⌝ }
+{
+    if memory.len() < WORDS {
+        return unnamed(Answer::Refused(NO_MEMORY, 0));
+    }
+    answer_with(policy, evidence, &mut memory[..WORDS])
 }
 
 // The answer to a policy text and a piece of evidence: the policy first, then the evidence, then the judging.
@@ -133,5 +156,14 @@ pub fn check(policy: &[u8], evidence: &[u8]) -> Answer
     ensures { λ r. ⌜ r ≡ answerOf (now (policy .entry)) (now (evidence .entry)) ⌝ }
 {
     let named = named_answer(policy, evidence);
+    named.answer
+}
+
+// The same in lent memory, of which a ledger's words are needed.
+pub fn check_in(policy: &[u8], evidence: &[u8], memory: &mut [u64]) -> Answer
+    ensures { λ r. ⌜ r ≡ inMemory ledgerWords (length (now (memory .entry))) (Answer.Refused noMemory 0) (answerOf (now (policy .entry)) (now (evidence .entry))) ⌝ }
+    ensures { λ _. ⌜ Spared ledgerWords (now (memory .entry)) (now (memory .exit)) ⌝ }
+{
+    let named = named_answer_in(policy, evidence, memory);
     named.answer
 }

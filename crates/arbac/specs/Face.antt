@@ -7,6 +7,7 @@ use mathlib.Core.Path.{_≡_}
 use lib.Dec.{leb}
 use lib.ListN.{length}
 use Rattle.writing.specs.Written.{put}
+use Rattle.ledgers.specs.Memory.{noMemory, inMemory}
 use Rattle.summing.specs.declared.SumAnswer.{SumAnswer}
 use Rattle.summing.specs.Outcome.{Outcome, bufferAfter}
 use Rattle.merging.specs.declared.MergeAnswer.{MergeAnswer}
@@ -31,6 +32,21 @@ toldIn width values array = cond (roomFor width array) (put values array) array
 -- The lent buffer of a text afterwards: nothing is written either where the array has no room.
 unfoldable pub bufferTold : {A : Type 0} → (width : ℕ) (array : List ℕ) → Outcome A → List ℕ → List ℕ
 bufferTold width array outcome buffer = cond (roomFor width array) (bufferAfter outcome buffer) buffer
+
+-- ---- the same in lent memory, of which so many words are needed
+
+-- What is answered: 255 where the array has no room, then 254 where the memory has too few words, else the number.
+unfoldable pub lentNumber : (needed width number : ℕ) (memory array : List ℕ) → ℕ
+lentNumber needed width number memory array = toldNumber width (inMemory needed (length memory) noMemory number) array
+
+-- The array and the lent buffer afterwards: as they were also where the memory has too few words.
+unfoldable pub lentIn : (needed width : ℕ) (values memory array : List ℕ) → List ℕ
+lentIn needed width values memory array = inMemory needed (length memory) array (toldIn width values array)
+
+unfoldable pub bufferLent : {A : Type 0} → (needed width : ℕ) (memory array : List ℕ) → Outcome A → List ℕ → List ℕ
+bufferLent needed width memory array outcome buffer = inMemory needed (length memory) buffer (bufferTold width array outcome buffer)
+
+-- ---- what a number says
 
 -- The answer is SAFE.
 pub data IsSafe : Answer → Type 0 where

@@ -1,9 +1,10 @@
 -- The user of an answer as it is told, and how a number and values are told in a lent array, with room and without.
 use Prim.Native.Nat.{ℕ, _≤_, _<_}
 use borrow.Author.Tests.{lt-leb, le-leb}
-use mathlib.Core.Bool.{Bool, cond}
+use mathlib.Core.Bool.{Bool, true, false, cond}
 use mathlib.Core.List.{List}
 use mathlib.Core.Path.{_≡_, refl, sym, ap, _∙_}
+use lib.Dec.{ltb}
 use lib.ListN.{length}
 use native.Mathlib.Omega.{arith}
 use Rattle.model.specs.Policy.{State, Run, Present}
@@ -11,14 +12,17 @@ use Rattle.model.specs.Policy as model
 use Rattle.model.specs.States.{present-back}
 use Rattle.reading.specs.Sound.{read-sound}
 use Rattle.following.specs.FollowsExact.{follows-run}
+use Rattle.ledgers.specs.Memory.{noMemory, inMemory}
+use Rattle.ledgers.specs.MemoryLaws.{memory-short, memory-enough}
 use Rattle.writing.specs.Written.{put}
 use Rattle.summing.specs.Outcome.{Outcome, answerIn, bufferAfter, Meets}
+use Rattle.summing.specs.Meeting.{meets-as}
 use Rattle.answering.specs.declared.Answer.{Answer}
 use Rattle.answering.specs.Answers.{answerOf}
 use Rattle.answering.specs.AnswerExact.{attacked-exact}
 use Rattle.telling.specs.Numbers.{Told, UserListed}
 use Rattle.telling.specs.NumberLaws.{known-told}
-use Rattle.arbac.specs.Face.{noRoom, roomFor, toldNumber, toldIn, bufferTold}
+use Rattle.arbac.specs.Face.{noRoom, roomFor, toldNumber, toldIn, bufferTold, lentNumber, lentIn, bufferLent}
 
 -- ---- the user of ATTACKED
 
@@ -75,3 +79,62 @@ module _ {A : Type 0} (numberOf : A → ℕ) (valuesOf : A → List ℕ) (width 
   with-room-outcome room met t =
       let all = with-room width room (told-as numberOf valuesOf (met .answered) t) in
       (all .0, (all .1, met .left ∙ sym (ap (λ (b : Bool). cond b (bufferAfter outcome buffer) buffer) (le-leb width (length array) room))))
+
+-- ---- in lent memory
+
+module _ (needed width : ℕ) (memory array : List ℕ) where
+  -- an array without room: nothing is told, whatever the memory
+  pub no-room-lent : (number : ℕ) (values : List ℕ) → length array < width → (noRoom ≡ lentNumber needed width number memory array) × (array ≡ lentIn needed width values memory array)
+  unfolding lentNumber lentIn inMemory
+  no-room-lent number values short = (no-room width _ values array short .0, go (ltb (length memory) needed))
+    where
+      go : (b : Bool) → array ≡ cond b array (toldIn width values array)
+      go true = refl
+      go false = no-room width number values array short .1
+
+  -- too few words: 254, and nothing is told
+  pub few-lent : (number : ℕ) (values : List ℕ) → width ≤ length array → length memory < needed → (noMemory ≡ lentNumber needed width number memory array) × (array ≡ lentIn needed width values memory array)
+  unfolding lentNumber lentIn toldNumber roomFor
+  few-lent number values room few =
+      (rw (memory-short needed (length memory) noMemory number few, le-leb width (length array) room), sym (memory-short needed (length memory) array (toldIn width values array) few))
+
+  -- enough of both: told as in memory of its own
+  pub told-lent : {number answered : ℕ} {values after : List ℕ} → width ≤ length array → needed ≤ length memory → Told number values array answered after
+      → (answered ≡ lentNumber needed width number memory array) × (after ≡ lentIn needed width values memory array)
+  unfolding lentNumber lentIn
+  told-lent {number} {values = values} room enough t =
+      let told = with-room width room t in (
+        told .0 ∙ sym (ap (λ (n : ℕ). toldNumber width n array) (memory-enough needed (length memory) noMemory number enough)),
+        told .1 ∙ sym (memory-enough needed (length memory) array (toldIn width values array) enough),
+      )
+
+  -- the same where a text is written too
+  module _ {A : Type 0} (numberOf : A → ℕ) (valuesOf : A → List ℕ) (outcome : Outcome A) (buffer : List ℕ) where
+    -- what is told of an outcome, and the buffer afterwards
+    abbrev OutcomeTold : (answered : ℕ) (after filled : List ℕ) → Type 0
+    OutcomeTold answered after filled =
+        (answered ≡ lentNumber needed width (numberOf (answerIn outcome)) memory array) × ((after ≡ lentIn needed width (valuesOf (answerIn outcome)) memory array) × (filled ≡ bufferLent needed width memory array outcome buffer))
+
+    pub no-room-lent-outcome : length array < width → OutcomeTold noRoom array buffer
+    unfolding bufferLent inMemory
+    no-room-lent-outcome short =
+        let none = no-room-lent (numberOf (answerIn outcome)) (valuesOf (answerIn outcome)) short in
+        (none .0, (none .1, go (ltb (length memory) needed)))
+      where
+        go : (b : Bool) → buffer ≡ cond b buffer (bufferTold width array outcome buffer)
+        go true = refl
+        go false = no-room-outcome numberOf valuesOf width outcome buffer array short .1 .1
+
+    pub few-lent-outcome : width ≤ length array → length memory < needed → OutcomeTold noMemory array buffer
+    unfolding bufferLent
+    few-lent-outcome room few =
+        let told = few-lent (numberOf (answerIn outcome)) (valuesOf (answerIn outcome)) room few in
+        (told .0, (told .1, sym (memory-short needed (length memory) buffer (bufferTold width array outcome buffer) few)))
+
+    pub told-lent-outcome : (tooFew : Outcome A) {answer : A} {answered : ℕ} {after filled : List ℕ} → width ≤ length array → needed ≤ length memory
+        → Meets (inMemory needed (length memory) tooFew outcome) buffer answer filled → Told (numberOf answer) (valuesOf answer) array answered after → OutcomeTold answered after filled
+    unfolding bufferLent
+    told-lent-outcome tooFew room enough met t =
+        let meets = meets-as (sym (memory-enough needed (length memory) tooFew outcome enough)) met in
+        let told = told-lent room enough (told-as numberOf valuesOf (meets .answered) t) in
+        (told .0, (told .1, with-room-outcome numberOf valuesOf width outcome buffer array room meets t .1 .1 ∙ sym (memory-enough needed (length memory) buffer (bufferTold width array outcome buffer) enough)))

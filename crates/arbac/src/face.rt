@@ -24,7 +24,7 @@ use telling::tell_place;
 use telling::tell_sum;
 
 // No answer and no text has this number.
-const NO_ROOM: u64 = 255;
+pub const NO_ROOM: u64 = 255;
 
 // Answers the number of the answer to a policy text and a piece of evidence, and tells its values in an array of at least 5
 // numbers.

@@ -7,7 +7,7 @@ use borrow.Author.Tests.{eqb-true, eqb-false, eq-eqb, ne-eqb}
 use lib.Dec.{eqb}
 use lib.ListN.{length, drop, getD, List·getD-eq-default}
 use lib.Seq.{getD-drop, drop-drop}
-use native.Mathlib.Decide.{decLe, ℕ-discrete}
+use native.Mathlib.Decide.{decLe, decLt, ℕ-discrete}
 use native.Mathlib.Nat.{add-zero}
 use native.Mathlib.Numerals.{add-one}
 use native.Mathlib.Omega.{arith}
@@ -39,6 +39,16 @@ pub before-byte : (field : List ℕ) (at : ℕ) → (symbol field at ≡ 44 → 
 unfolding before
 before-byte field at byte = rw (ne-eqb (symbol field at) 44 byte)
 
+-- where no byte of a name stands before a place, a comma does
+pub comma-before : (field : List ℕ) (at : ℕ) → before field (suc at) ≡ [] → symbol field at ≡ 44
+comma-before field at none = go (ℕ-discrete (symbol field at) 44)
+  where
+    go : Dec (symbol field at ≡ 44) → symbol field at ≡ 44
+    go (yes comma) = comma
+    go (no other) =
+        let never : 0 ≡ suc (length (before field at)) = ap length (sym none ∙ before-byte field at other) in
+        absurd (omega arith)
+
 pub names-comma : (field : List ℕ) (at : ℕ) → symbol field at ≡ 44 → names field (suc at) ≡ reverse (before field at) ∷ names field at
 unfolding names
 names-comma field at comma = rw (eq-eqb (symbol field at) 44 comma)
@@ -50,17 +60,17 @@ names-byte field at byte = rw (ne-eqb (symbol field at) 44 byte)
 -- ---- the pieces between commas are the names told by their ends
 
 -- the bytes of a name that stand before a place, then the pieces from that place on
-joined : List ℕ → List (List ℕ) → List (List ℕ)
+unfoldable pub joined : List ℕ → List (List ℕ) → List (List ℕ)
 joined u [] = reverse u ∷ []
 joined u (piece ∷ pieces) = reverseAux u piece ∷ pieces
 
-joined-onto : (u : List ℕ) (byte : ℕ) (pieces : List (List ℕ)) → joined u (onto byte pieces) ≡ joined (byte ∷ u) pieces
+pub joined-onto : (u : List ℕ) (byte : ℕ) (pieces : List (List ℕ)) → joined u (onto byte pieces) ≡ joined (byte ∷ u) pieces
 unfolding joined onto
 joined-onto u byte [] = refl
 joined-onto u byte (piece ∷ pieces) = refl
 
 -- no bytes of a name: the pieces as they are
-joined-split : (s : List ℕ) → joined [] (split 44 s) ≡ split 44 s
+pub joined-split : (s : List ℕ) → joined [] (split 44 s) ≡ split 44 s
 unfolding joined split onto
 joined-split [] = refl
 joined-split (byte ∷ rest) = go (eqb byte 44) (split 44 rest)
@@ -75,6 +85,14 @@ pub symbol-past : (field : List ℕ) (at : ℕ) → length field ≤ at → symb
 unfolding symbol
 symbol-past field at past = List·getD-eq-default field 44 past
 
+-- what is no comma stands inside
+pub symbol-there : (field : List ℕ) (at : ℕ) → (symbol field at ≡ 44 → ⊥) → at < length field
+symbol-there field at other = go (decLt at (length field))
+  where
+    go : Dec (at < length field) → at < length field
+    go (yes inside) = inside
+    go (no past) = absurd (other (symbol-past field at (omega arith)))
+
 -- at a place inside stands the field's byte
 pub symbol-inside : (field : List ℕ) (at : ℕ) → at < length field → getD field at 0 ≡ symbol field at
 unfolding symbol
@@ -82,22 +100,27 @@ symbol-inside [] at inside = absurd (omega arith)
 symbol-inside (byte ∷ field) zero inside = refl
 symbol-inside (byte ∷ field) (suc at) inside = symbol-inside field at (omega arith)
 
+-- what is left from a place on begins with the byte there, and goes on with what is left from the next place on
+pub left-symbol : {byte : ℕ} {rest : List ℕ} (field : List ℕ) (at : ℕ) → drop at field ≡ byte ∷ rest → symbol field at ≡ byte
+unfolding symbol
+left-symbol field at here = ap (λ (n : ℕ). getD field n 44) (sym (add-zero at)) ∙ sym (getD-drop at field 0 44) ∙ ap (λ (l : List ℕ). getD l 0 44) here
+
+pub left-next : {byte : ℕ} {rest : List ℕ} (field : List ℕ) (at : ℕ) → drop at field ≡ byte ∷ rest → drop (suc at) field ≡ rest
+left-next field at here = ap (λ (n : ℕ). drop n field) (sym (add-one at)) ∙ sym (drop-drop 1 at field) ∙ ap (drop 1) here
+
 -- the names that ended and the pieces still to come, at any place
-from-place : (field rest : List ℕ) (at : ℕ) → drop at field ≡ rest → at + length rest ≡ length field
+pub from-place : (field rest : List ℕ) (at : ℕ) → drop at field ≡ rest → at + length rest ≡ length field
     → repeated (joined (before field at) (split 44 rest) ++ names field at) ≡ repeated (names field (suc (length field)))
-unfolding joined split symbol
+unfolding joined split
 from-place field [] at here ends =
     let last : at ≡ length field = omega arith in
     let comma : symbol field at ≡ 44 = symbol-past field at (omega arith) in
     rw (← last) (ap repeated (sym (names-comma field at comma)))
 from-place field (byte ∷ rest) at here ends =
-    go (eqb byte 44) refl (from-place field rest (suc at) next (omega arith))
+    go (eqb byte 44) refl (from-place field rest (suc at) (left-next field at here) (omega arith))
   where
     seen : symbol field at ≡ byte
-    seen = ap (λ (n : ℕ). getD field n 44) (sym (add-zero at)) ∙ sym (getD-drop at field 0 44) ∙ ap (λ (l : List ℕ). getD l 0 44) here
-
-    next : drop (suc at) field ≡ rest
-    next = ap (λ (n : ℕ). drop n field) (sym (add-one at)) ∙ sym (drop-drop 1 at field) ∙ ap (drop 1) here
+    seen = left-symbol field at here
 
     go : (t : Bool) → eqb byte 44 ≡ t
         → repeated (joined (before field (suc at)) (split 44 rest) ++ names field (suc at)) ≡ repeated (names field (suc (length field)))

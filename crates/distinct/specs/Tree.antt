@@ -1,71 +1,62 @@
--- The tree of the names that were read: how it lies in a list of links, and how a byte is looked up in it.
-use Prim.Native.Nat.{ℕ, zero, suc, _+_, _-_, _*_, _/_, _%_, _<_}
-use mathlib.Core.Bool.{cond}
+-- The tree of the names that ended before a place: how it lies in a list of links, and how a name is followed in it.
+use Prim.Native.Nat.{ℕ, zero, suc, _+_, _-_, _<_, _≤_}
+use mathlib.Core.Bool.{false}
 use mathlib.Core.List.{List, [], _∷_}
 use mathlib.Core.Path.{_≡_, refl, sym, ap, _∙_, subst}
-use borrow.Author.Tests.{ne-eqb}
-use lib.Dec.{eqb}
-use lib.ListN.{length, getD, set, replicate}
+use lib.ListN.{getD, set, replicate}
 use lib.Seq.{getD-set-other}
-use native.Mathlib.Decide.{decLt, ℕ-discrete}
 use native.Mathlib.Omega.{arith}
-use Rattle.distinct.specs.Names.{symbol, before}
+use Rattle.text.specs.Pieces.{repeated}
+use Rattle.distinct.specs.Names.{symbol, before, names, before-byte}
+use Rattle.distinct.specs.Plain.{Plain, none, more}
+use Rattle.distinct.specs.Heads.{headOf}
 
--- A node is a place of the field, plus one. The three slots of node n are 3n, 3n + 1 and 3n + 2, and a slot that holds 0 is empty.
--- From slot 3n + 2 on stand the bytes that may follow node n; slot 2 is where a name begins.
--- A slot that holds a node with another byte than the one looked for sends on to that node's first or second slot, by the byte's next bit.
+-- A link is 0, or a place of the field plus one. The first links are heads, each to the first place of the first name under it.
+-- After them every place has a link, to a later place before which its name has the same bytes: there a name goes on with another byte.
+-- The next byte of a name in the tree stands at the next place, so that no link is needed to go on with it.
 
--- looking for a byte from a slot on: how many nodes were passed, what is left of the byte's bits, and the slot that is looked at
-pub data Aside (field links : List ℕ) (byte from : ℕ) : ℕ → ℕ → ℕ → Type 0 where
-  first : Aside field links byte from 0 byte from
-  past : {turns rest slot at : ℕ} → Aside field links byte from turns rest slot → getD links slot 0 ≡ suc at → (symbol field at ≡ byte → ⊥)
-      → Aside field links byte from (suc turns) (rest / 2) (3 * suc at + rest % 2)
+-- looking for a byte from a place on: where the byte there is another, the link leads on
+pub data Chain (field links : List ℕ) (heads byte : ℕ) : ℕ → ℕ → Type 0 where
+  here : {place : ℕ} → symbol field place ≡ byte → Chain field links heads byte place place
+  past : {place next last : ℕ} → (symbol field place ≡ byte → ⊥) → getD links (heads + place) 0 ≡ suc next → Chain field links heads byte next last
+      → Chain field links heads byte place last
 
--- the slot at which looking for a byte ends: it is empty, or its node has the byte
-pub record Sought (field links : List ℕ) (byte from slot : ℕ) : Type 0 where
-  pub turns : ℕ
-  pub rest : ℕ
-  pub way : Aside field links byte from turns rest slot
-  pub stop : (at : ℕ) → getD links slot 0 ≡ suc at → symbol field at ≡ byte
+-- following bytes, the last one first, from a head on: the place from which on the next byte is looked for
+pub data Down (field links : List ℕ) (heads head : ℕ) : List ℕ → ℕ → Type 0 where
+  root : {place : ℕ} → getD links head 0 ≡ suc place → Down field links heads head [] place
+  next : {bytes : List ℕ} {byte place last : ℕ} → Down field links heads head bytes place → Chain field links heads byte place last
+      → Down field links heads head (byte ∷ bytes) (suc last)
 
--- following bytes, the last one first, from where a name begins: the slot from which on the next byte is looked for
-pub data Down (field links : List ℕ) : List ℕ → ℕ → Type 0 where
-  root : Down field links [] 2
-  next : {bytes : List ℕ} {byte from slot at : ℕ} → Down field links bytes from → Sought field links byte from slot → getD links slot 0 ≡ suc at
-      → Down field links (byte ∷ bytes) (3 * suc at + 2)
+-- bytes are followed, and then a byte is found at a place
+pub record Led (field links : List ℕ) (heads head : ℕ) (bytes : List ℕ) (byte last : ℕ) : Type 0 where
+  pub place : ℕ
+  pub way : Down field links heads head bytes place
+  pub chain : Chain field links heads byte place last
 
--- a name stands in the tree: its bytes and the comma after it lead to a node with a comma
-pub record Stored (field links bytes : List ℕ) : Type 0 where
-  pub from : ℕ
-  pub slot : ℕ
-  pub at : ℕ
-  pub way : Down field links bytes from
-  pub sought : Sought field links 44 from slot
-  pub held : getD links slot 0 ≡ suc at
+-- the tree of the names that ended before the beginning of a name, none of which stands twice
+pub record Tree (field links : List ℕ) (heads limit : ℕ) : Type 0 where
+  pub begins : before field limit ≡ []
+  pub rising : (slot place : ℕ) → getD links slot 0 ≡ suc place → slot < heads + place
+  pub earlier : (slot place : ℕ) → getD links slot 0 ≡ suc place → place < limit
+  pub spelt : (slot place : ℕ) → getD links slot 0 ≡ suc place → before field place ≡ before field (slot - heads)
+  pub stored : (end : ℕ) → end < limit → symbol field end ≡ 44
+      → (last : ℕ) × Led field links heads (headOf field heads (before field end)) (before field end) (symbol field end) last
+  pub single : repeated (names field limit) ≡ false
 
--- the bytes that lead to a slot, the last one first
-unfoldable pub leading : List ℕ → ℕ → List ℕ
-leading field slot = cond (eqb (slot % 3) 2) (before field (slot / 3)) (before field (slot / 3 - 1))
+-- links are the tree of the names that ended before the beginning of a name, or before an earlier one
+pub record Planted (field links : List ℕ) (heads from : ℕ) : Type 0 where
+  pub begins : before field from ≡ []
+  pub limit : ℕ
+  pub order : limit ≤ from
+  pub tree : Tree field links heads limit
 
--- where the byte after a node is looked for: after a comma a name begins
-unfoldable pub onward : ℕ → ℕ → ℕ
-onward byte node = cond (eqb byte 44) 2 (3 * node + 2)
-
--- every link goes to a later node, whose slots are there
-pub record Linked (links : List ℕ) : Type 0 where
-  pub rising : (slot at : ℕ) → getD links slot 0 ≡ suc at → slot < 3 * suc at
-  pub inside : (slot at : ℕ) → getD links slot 0 ≡ suc at → 3 * suc at + 2 < length links
+-- of all the names that ended before
+pub tree-planted : {field links : List ℕ} {heads from : ℕ} → Tree field links heads from → Planted field links heads from
+tree-planted {from = from} tree = record { begins = tree .begins; limit = from; order = omega arith; tree = tree }
 
 -- every slot is empty
 pub record Blank (links : List ℕ) : Type 0 where
   pub empty : (slot : ℕ) → getD links slot 0 ≡ 0
-
--- the tree of what stands before a place
-pub record Tree (field links : List ℕ) (at : ℕ) : Type 0 where
-  pub rising : (slot node : ℕ) → getD links slot 0 ≡ suc node → slot < 3 * suc node
-  pub earlier : (slot node : ℕ) → getD links slot 0 ≡ suc node → node < at
-  pub spelt : (slot node : ℕ) → getD links slot 0 ≡ suc node → before field node ≡ leading field slot
-  pub stored : (end : ℕ) → end < at → symbol field end ≡ 44 → Stored field links (before field end)
 
 -- zeros are empty slots
 pub zeros-blank : (count : ℕ) → Blank (replicate count 0)
@@ -76,169 +67,108 @@ zeros-blank count = record { empty = at count }
     at (suc n) zero = refl
     at (suc n) (suc slot) = at n slot
 
--- ---- looking for a byte goes one way
-
--- a slot that looking for a byte went on from
-record Passed (field links : List ℕ) (byte from turns : ℕ) : Type 0 where
-  rest : ℕ
-  slot : ℕ
-  at : ℕ
-  way : Aside field links byte from turns rest slot
-  held : getD links slot 0 ≡ suc at
-  other : symbol field at ≡ byte → ⊥
-
-module _ {field links : List ℕ} {byte from : ℕ} where
-  -- after as many nodes it stands at the same slot
-  aside-same : {turns r s r′ s′ : ℕ} → Aside field links byte from turns r s → Aside field links byte from turns r′ s′ → (r ≡ r′) × (s ≡ s′)
-  aside-same first first = (refl, refl)
-  aside-same (past {slot = s} way held other) (past {slot = s′} way′ held′ other′) =
-      let same = aside-same way way′ in
-      let node = sym held ∙ ap (λ (n : ℕ). getD links n 0) (same .1) ∙ held′ in
-      let bits = same .0 in
-      (ap (λ (n : ℕ). n / 2) bits, omega arith)
-
-  aside-passed : {turns′ r s : ℕ} (turns : ℕ) → turns < turns′ → Aside field links byte from turns′ r s → Passed field links byte from turns
-  aside-passed turns less first = absurd (omega arith)
-  aside-passed turns less (past {turns = n} {rest = r} {slot = s} {at = a} way held other) = go (ℕ-discrete turns n) (λ h. aside-passed turns h way)
-    where
-      go : Dec (turns ≡ n) → (turns < n → Passed field links byte from turns) → Passed field links byte from turns
-      go (yes h) below = record { rest = r; slot = s; at = a; way = rw h way; held = held; other = other }
-      go (no h) below = below (omega arith)
-
--- it ends at one slot
-pub sought-one : {field links : List ℕ} {byte from slot slot′ : ℕ} → Sought field links byte from slot → Sought field links byte from slot′ → slot ≡ slot′
-sought-one {field} {links} {byte} {from} {slot} {slot′} one two = go (decLt (one .turns) (two .turns)) (decLt (two .turns) (one .turns))
+-- with no link it is the tree of no names
+pub tree-start : (field links : List ℕ) (heads : ℕ) → Blank links → Tree field links heads 0
+unfolding before names repeated
+tree-start field links heads blank =
+    record {
+      begins = refl;
+      rising = λ slot place held. absurd (none-there slot place held);
+      earlier = λ slot place held. absurd (none-there slot place held);
+      spelt = λ slot place held. absurd (none-there slot place held);
+      stored = λ end less comma. absurd (omega arith);
+      single = refl;
+    }
   where
-    -- a slot where it ends is no slot that it goes on from
-    ends : {s : ℕ} (end : Sought field links byte from s) → Passed field links byte from (end .turns) → ⊥
-    ends end gone =
-        let same = aside-same (gone .way) (end .way) .1 in
-        gone .other (end .stop (gone .at) (ap (λ (n : ℕ). getD links n 0) (sym same) ∙ gone .held))
+    none-there : (slot place : ℕ) → getD links slot 0 ≡ suc place → ⊥
+    none-there slot place held = omega (arith, blank .empty slot)
 
-    go : Dec (one .turns < two .turns) → Dec (two .turns < one .turns) → slot ≡ slot′
-    go (yes h) d = absurd (ends one (aside-passed (one .turns) h (two .way)))
-    go (no h) (yes g) = absurd (ends two (aside-passed (two .turns) g (one .way)))
-    go (no h) (no g) =
-        let same : two .turns ≡ one .turns = omega arith in
-        aside-same (one .way) (rw same at (two .way)) .1
+-- ---- a name is followed in one way
 
--- bytes lead to one slot
-pub down-one : {field links bytes : List ℕ} {from from′ : ℕ} → Down field links bytes from → Down field links bytes from′ → from ≡ from′
-down-one root root = refl
-down-one {field} {links} (next {byte = b} {slot = s} way sought held) (next {slot = s′} way′ sought′ held′) =
-    let same = sought-one sought (subst (λ (n : ℕ). Sought field links b n s′) (sym (down-one way way′)) sought′) in
-    let node = sym held ∙ ap (λ (n : ℕ). getD links n 0) same ∙ held′ in
-    omega arith
+module _ {field links : List ℕ} {heads : ℕ} where
+  -- a byte is found at one place
+  chain-one : {byte place last last′ : ℕ} → Chain field links heads byte place last → Chain field links heads byte place last′ → last ≡ last′
+  chain-one (here same) (here same′) = refl
+  chain-one (here same) (past other held chain) = absurd (other same)
+  chain-one (past other held chain) (here same) = absurd (other same)
+  chain-one {byte} {last′ = last′} (past {next = n} other held chain) (past {next = n′} other′ held′ chain′) =
+      let node : suc n′ ≡ suc n = sym held′ ∙ held in
+      let same : n′ ≡ n = omega arith in
+      chain-one chain (subst (λ (p : ℕ). Chain field links heads byte p last′) same chain′)
 
--- ---- links that are added keep every way
+  -- bytes lead to one place
+  pub down-one : {head : ℕ} {bytes : List ℕ} {place place′ : ℕ} → Down field links heads head bytes place → Down field links heads head bytes place′ → place ≡ place′
+  down-one (root held) (root held′) =
+      let node = sym held ∙ held′ in
+      omega arith
+  down-one (next {byte = byte} way chain) (next {last = last′} way′ chain′) =
+      ap suc (chain-one chain (subst (λ (p : ℕ). Chain field links heads byte p last′) (sym (down-one way way′)) chain′))
+
+  -- where the byte is another and no link leads on, it is not found
+  pub chain-ends : {byte place last : ℕ} → (symbol field place ≡ byte → ⊥) → getD links (heads + place) 0 ≡ 0 → Chain field links heads byte place last → ⊥
+  chain-ends other empty (here same) = other same
+  chain-ends other empty (past other′ held chain) = omega arith
+
+  -- where it is another, it is looked for where the link leads
+  pub chain-on : {byte place next last : ℕ} → (symbol field place ≡ byte → ⊥) → getD links (heads + place) 0 ≡ suc next → Chain field links heads byte place last
+      → Chain field links heads byte next last
+  chain-on other held (here same) = absurd (other same)
+  chain-on {byte} {next = n} {last = last} other held (past {next = n′} other′ held′ chain) =
+      let node : suc n′ ≡ suc n = sym held′ ∙ held in
+      let same : n′ ≡ n = omega arith in
+      subst (λ (p : ℕ). Chain field links heads byte p last) same chain
+
+  -- from an empty head no bytes are followed
+  pub down-empty : {head : ℕ} {bytes : List ℕ} {place : ℕ} → getD links head 0 ≡ 0 → Down field links heads head bytes place → ⊥
+  down-empty empty (root held) = omega arith
+  down-empty empty (next way chain) = down-empty empty way
+
+  -- ---- along the places of a name
+
+  -- the last byte of those that are followed was found
+  down-last : {head byte place : ℕ} {bytes : List ℕ} → Down field links heads head (byte ∷ bytes) place → (last : ℕ) × Led field links heads head bytes byte last
+  down-last (next {place = place} {last = last} way chain) = (last, record { place = place; way = way; chain = chain })
+
+  -- a name that is followed up to its end is followed up to each place before
+  pub led-back : {head at end last : ℕ} → Plain field at end → Led field links heads head (before field end) (symbol field end) last
+      → (found : ℕ) × Led field links heads head (before field at) (symbol field at) found
+  led-back {last = last} none led = (last, led)
+  led-back (more {at = at} plain other) led = led-back plain (down-last (rw (before-byte field at other) at (led .way)) .1)
+
+  -- a place that is found leads on to the end of its name
+  pub led-along : {head at end : ℕ} → Plain field at end → Led field links heads head (before field at) (symbol field at) at
+      → Led field links heads head (before field end) (symbol field end) end
+  led-along none led = led
+  led-along (more {at = at} plain other) led =
+      let there = led-along plain led in
+      record { place = suc at; way = rw (before-byte field at other) (next (there .way) (there .chain)); chain = here refl }
+
+-- ---- links that are added keep every way, so names that were followed are followed still
 
 -- every link stays
 pub record Kept (links links′ : List ℕ) : Type 0 where
-  pub stays : (slot at : ℕ) → getD links slot 0 ≡ suc at → getD links′ slot 0 ≡ suc at
+  pub stays : (slot place : ℕ) → getD links slot 0 ≡ suc place → getD links′ slot 0 ≡ suc place
 
-pub aside-kept : {field links links′ : List ℕ} {byte from turns rest slot : ℕ} → Kept links links′
-    → Aside field links byte from turns rest slot → Aside field links′ byte from turns rest slot
-aside-kept kept first = first
-aside-kept kept (past way held other) = past (aside-kept kept way) (kept .stays _ _ held) other
+module _ {field links links′ : List ℕ} {heads : ℕ} (kept : Kept links links′) where
+  chain-kept : {byte place last : ℕ} → Chain field links heads byte place last → Chain field links′ heads byte place last
+  chain-kept (here same) = here same
+  chain-kept (past other held chain) = past other (kept .stays _ _ held) (chain-kept chain)
 
--- a search that ended at a node ends there again
-pub sought-kept : {field links links′ : List ℕ} {byte from slot at : ℕ} → Kept links links′ → Sought field links byte from slot → getD links slot 0 ≡ suc at
-    → Sought field links′ byte from slot
-sought-kept {slot = slot} {at = at} kept sought held =
-    record {
-      turns = sought .turns;
-      rest = sought .rest;
-      way = aside-kept kept (sought .way);
-      stop = λ n e. sought .stop n (held ∙ sym (kept .stays slot at held) ∙ e);
-    }
+  pub down-kept : {head : ℕ} {bytes : List ℕ} {place : ℕ} → Down field links heads head bytes place → Down field links′ heads head bytes place
+  down-kept (root held) = root (kept .stays _ _ held)
+  down-kept (next way chain) = next (down-kept way) (chain-kept chain)
 
-pub down-kept : {field links links′ bytes : List ℕ} {from : ℕ} → Kept links links′ → Down field links bytes from → Down field links′ bytes from
-down-kept kept root = root
-down-kept kept (next way sought held) = next (down-kept kept way) (sought-kept kept sought held) (kept .stays _ _ held)
-
-pub stored-kept : {field links links′ bytes : List ℕ} → Kept links links′ → Stored field links bytes → Stored field links′ bytes
-stored-kept kept h =
-    record { from = h .from; slot = h .slot; at = h .at; way = down-kept kept (h .way); sought = sought-kept kept (h .sought) (h .held); held = kept .stays _ _ (h .held) }
+  pub led-kept : {head : ℕ} {bytes : List ℕ} {byte last : ℕ} → Led field links heads head bytes byte last → Led field links′ heads head bytes byte last
+  led-kept led = record { place = led .place; way = down-kept (led .way); chain = chain-kept (led .chain) }
 
 -- a link put into an empty slot
 pub set-kept : (links : List ℕ) (slot node : ℕ) → getD links slot 0 ≡ 0 → Kept links (set links slot node)
 set-kept links slot node empty = record { stays = stays }
   where
-    stays : (s at : ℕ) → getD links s 0 ≡ suc at → getD (set links slot node) s 0 ≡ suc at
-    stays s at held = getD-set-other links slot s node 0 other ∙ held
+    stays : (s place : ℕ) → getD links s 0 ≡ suc place → getD (set links slot node) s 0 ≡ suc place
+    stays s place held = getD-set-other links slot s node 0 other ∙ held
       where
         other : s ≡ slot → ⊥
         other same =
-            let never : 0 ≡ suc at = sym empty ∙ ap (λ (n : ℕ). getD links n 0) (sym same) ∙ held in
+            let never : 0 ≡ suc place = sym empty ∙ ap (λ (n : ℕ). getD links n 0) (sym same) ∙ held in
             omega arith
-
--- ---- which bytes lead to a slot
-
-pub leading-root : (field : List ℕ) → leading field 2 ≡ []
-unfolding leading before
-leading-root field = refl
-
-pub leading-down : (field : List ℕ) (at : ℕ) → leading field (3 * suc at + 2) ≡ before field (suc at)
-unfolding leading
-leading-down field at =
-    let third : (3 * suc at + 2) % 3 ≡ 2 = omega arith in
-    let node : (3 * suc at + 2) / 3 ≡ suc at = omega arith in
-    rw (third, node)
-
-pub leading-aside : (field : List ℕ) (at rest : ℕ) → leading field (3 * suc at + rest % 2) ≡ before field at
-unfolding leading
-leading-aside field at rest =
-    let other : (3 * suc at + rest % 2) % 3 ≡ 2 → ⊥ = omega arith in
-    let node : (3 * suc at + rest % 2) / 3 - 1 ≡ at = omega arith in
-    rw (ne-eqb ((3 * suc at + rest % 2) % 3) 2 other, node)
-
-module _ {field links : List ℕ} {place : ℕ} (tree : Tree field links place) where
-  -- every slot that is looked at has the same bytes before it
-  pub aside-leading : {byte from turns rest slot : ℕ} → Aside field links byte from turns rest slot → leading field slot ≡ leading field from
-  aside-leading first = refl
-  aside-leading (past {rest = r} {slot = s} {at = a} way held other) = leading-aside field a r ∙ tree .spelt s a held ∙ aside-leading way
-
-  -- and belongs to a node that is there
-  pub aside-near : {byte from turns rest slot : ℕ} → from < 3 * suc place → Aside field links byte from turns rest slot → slot < 3 * suc place
-  aside-near near first = near
-  aside-near near (past {rest = r} {slot = s} {at = a} way held other) = omega (arith, tree .earlier s a held)
-
--- ---- what looking for a byte asks
-
-pub tree-linked : {field links : List ℕ} {at : ℕ} → Tree field links at → 3 * at + 2 < length links → Linked links
-tree-linked tree room =
-    record { rising = tree .rising; inside = λ slot node held. omega (arith, tree .earlier slot node held) }
-
--- a slot that is not empty holds a node
-pub node-there : (links : List ℕ) (slot : ℕ) → (getD links slot 0 ≡ 0 → ⊥) → getD links slot 0 ≡ suc (getD links slot 0 - 1)
-node-there links slot full = omega arith
-
--- the node of a slot is a later one, and its slots are there
-pub linked-on : {links : List ℕ} → Linked links → (slot : ℕ) → (getD links slot 0 ≡ 0 → ⊥)
-    → (slot < 3 * getD links slot 0) × (3 * getD links slot 0 + 2 < length links)
-linked-on {links} linked slot full =
-    let there = node-there links slot full in
-    (omega (arith, linked .rising slot (getD links slot 0 - 1) there), omega (arith, linked .inside slot (getD links slot 0 - 1) there))
-
--- looking on past a node of another byte
-pub aside-on : {field links : List ℕ} {byte from turns rest slot : ℕ} → Aside field links byte from turns rest slot → (getD links slot 0 ≡ 0 → ⊥)
-    → (symbol field (getD links slot 0 - 1) ≡ byte → ⊥) → Aside field links byte from (suc turns) (rest / 2) (3 * getD links slot 0 + rest % 2)
-aside-on {field} {links} {byte} {from} {turns} {rest} {slot} way full other =
-    let there = node-there links slot full in
-    subst (λ (n : ℕ). Aside field links byte from (suc turns) (rest / 2) (3 * n + rest % 2)) (sym there) (past way there other)
-
--- an empty slot ends it
-pub sought-empty : {field links : List ℕ} {byte from turns rest slot : ℕ} → Aside field links byte from turns rest slot → getD links slot 0 ≡ 0
-    → Sought field links byte from slot
-sought-empty {turns = turns} {rest = rest} way empty = record { turns = turns; rest = rest; way = way; stop = λ at held. absurd (omega arith) }
-
--- a node of the byte ends it
-pub sought-node : {field links : List ℕ} {byte from turns rest slot : ℕ} → Aside field links byte from turns rest slot
-    → symbol field (getD links slot 0 - 1) ≡ byte → Sought field links byte from slot
-sought-node {field} {links} {byte} {turns = turns} {rest = rest} {slot = slot} way same =
-    record { turns = turns; rest = rest; way = way; stop = stop }
-  where
-    stop : (at : ℕ) → getD links slot 0 ≡ suc at → symbol field at ≡ byte
-    stop at held =
-        let node : at ≡ getD links slot 0 - 1 = omega arith in
-        ap (symbol field) node ∙ same

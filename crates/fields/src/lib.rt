@@ -82,15 +82,15 @@ fn are_set(field: &[u8]) -> bool
     !distinct::repeats(field)
 }
 
-// Whether the first names of a field, up to a comma past a length, make no set; then all its names make none.
-fn fails_early(field: &[u8], size: usize) -> bool
+// Whether the first names of a field, up to a comma past 1024 bytes, make no set; then all its names make none.
+fn fails_early(field: &[u8]) -> bool
     requires { ⌜ length (now field) ≤ 32768 ⌝ }
     ensures { λ r. ⌜ (r ≡ true → areSet (split 44 (now (field .entry))) ≡ false) ⌝ }
 {
-    if field.len() < size {
+    if field.len() < 1024 {
         return false;
     }
-    let cut = text::seek(field, size, b',');
+    let cut = text::seek(field, 1024, b',');
     !are_set(&field[..cut])
 }
 
@@ -100,10 +100,7 @@ fn read_undeclared(field: &[u8]) -> SetRead
     requires { ⌜ (length (now field) ≤ 32768) × (sameBytes (now field) (bytes "-") ≡ false) ⌝ }
     ensures { λ r. ⌜ r ≡ undeclaredSet (now (field .entry)) ⌝ }
 {
-    if fails_early(field, 1024) {
-        return malformed_set();
-    }
-    if fails_early(field, 8192) {
+    if fails_early(field) {
         return malformed_set();
     }
     if !are_set(field) {

@@ -14,6 +14,9 @@ use tables::Name;
 // How many words a ledger has.
 pub const WORDS: usize = 3072;
 
+// The number of the answer where too little memory is lent.
+pub const NO_MEMORY: u64 = 254;
+
 // Where the parts begin.
 const ROLES: usize = 0;
 

@@ -2,11 +2,14 @@
 use Prim.Native.Nat.{ℕ, zero, suc, _+_, _-_}
 use mathlib.Core.Bool.{Bool, true, false, cond, _&&_}
 use mathlib.Core.List.{List}
+use mathlib.Core.Path.{_≡_}
 use lib.Dec.{ltb, leb, eqb}
 use lib.ListN.{length, drop}
 use Rattle.bytes.specs.Bytes.{indexOf}
 use Rattle.text.specs.Pieces.{part}
 use Rattle.walking.specs.Texts.{Reading, read, refused}
+use Rattle.ledgers.specs.Ledger.{ledgerWords}
+use Rattle.ledgers.specs.Memory.{noMemory, inMemory}
 use Rattle.reading.specs.Policy.{Said, readPolicy}
 use Rattle.places.specs.declared.Refusal.{Refusal}
 use Rattle.places.specs.declared.Span.{Span}
@@ -84,3 +87,12 @@ unfoldable pub beginsAt : (policy evidence : ℕ × ℕ) → BadPlace → ℕ ×
 beginsAt policy evidence place =
     let text = cond (place .evidence) evidence policy in
     (text .0, place .from + text .1)
+
+-- The part that is given back for a refusal of two texts, by where it begins and its bytes.
+pub record LineAt (policy-start : ℕ × ℕ) (policy : List ℕ) (evidence-start : ℕ × ℕ) (evidence : List ℕ) (r : Refusal) (start : ℕ × ℕ) (line : List ℕ) : Type 0 where
+  pub bytes : line ≡ bytesAt policy evidence (placeOf policy evidence r)
+  pub begins : start ≡ beginsAt policy-start evidence-start (placeOf policy evidence r)
+
+-- In lent memory of so many words: the refusal for too little memory, at line 0, or the refusal itself.
+unfoldable pub lentRefusal : ℕ → Refusal → Refusal
+lentRefusal words r = inMemory ledgerWords words (record { number = noMemory; line = 0 }) r

@@ -12,17 +12,19 @@ use Rattle.tables.specs.declared.Name.{Name}
 use Rattle.text.specs.Pieces.{part, Sought}
 use Rattle.walking.specs.Texts.{Reading, read, refused}
 use Rattle.tables.specs.Names.{rows}
-use Rattle.reading.specs.declared.directory.Directory.{Directory}
-use Rattle.reading.specs.declared.policy.Rules.{Rules}
+use Rattle.lines.specs.declared.Counts.{Counts}
+use Rattle.ledgers.specs.Ledger.{ledgerWords}
+use Rattle.ledgers.specs.Memory.{noMemory}
+use Rattle.ledgers.specs.MemoryLaws.{memory-short, memory-enough}
 use Rattle.reading.specs.Policy.{Said, readPolicy}
-use Rattle.reading.specs.Told.{Told, roles-laid}
+use Rattle.reading.specs.Told.{Told, roles-told}
 use Rattle.typings.specs.declared.TypingRead.{TypingRead}
 use Rattle.places.specs.declared.Refusal.{Refusal}
 use Rattle.places.specs.declared.Span.{Span}
 use Rattle.places.specs.declared.BadPlace.{BadPlace}
 use Rattle.typings.specs.TypingText.{Typed, readTyping, refusedTyping, answerOf, typingRead}
 use Rattle.traces.specs.TraceText.{readTrace}
-use Rattle.places.specs.Place.{told, refusalAfter, refusalAs, typingRefusalOf, noSpan, spanOf, badSpan, placeOf, bytesAt, beginsAt}
+use Rattle.places.specs.Place.{told, refusalAfter, refusalAs, typingRefusalOf, noSpan, spanOf, badSpan, placeOf, bytesAt, beginsAt, lentRefusal}
 
 module _ (typing : Bool) (policy evidence : List ℕ) where
   -- a policy that is refused decides, and one that is read leaves it to the evidence
@@ -40,19 +42,19 @@ pub typing-refused : (policy typing : List ℕ) {s : Said} {number line : ℕ} �
 unfolding told
 typing-refused policy typing reads is = sym (after-read true policy typing reads) ∙ ap told is
 
--- as the record of its reader has it, over the records of a policy that is read
+-- as the record of its reader has it, over a policy that is read
 typing-told : (r : Reading Typed) → record { number = answerOf r .refusal; line = answerOf r .line } ≡ told r
 unfolding answerOf refusedTyping told
 typing-told (read s) = refl
 typing-told (refused k n) = refl
 
-pub over-told : {policy : List ℕ} {D : Directory} {R : Rules} → Told policy D R → (typing : List ℕ) {T : TypingRead} → T ≡ typingRead (rows (R .counts .roles) (D .roles)) typing
+pub over-told : {policy : List ℕ} {c : Counts} {words : List ℕ} → Told policy c words → (typing : List ℕ) {T : TypingRead} → T ≡ typingRead (rows (c .roles) words) typing
     → record { number = T .refusal; line = T .line } ≡ typingRefusalOf policy typing
 unfolding typingRead
-over-told {policy} {D} {R} t typing given =
+over-told {policy} {c} {words} t typing given =
     (λ i. record { number = given i .refusal; line = given i .line })
-    ∙ typing-told (readTyping (rows (R .counts .roles) (D .roles)) typing)
-    ∙ ap (λ (names : List Name). told (readTyping names typing)) (roles-laid (t .laid))
+    ∙ typing-told (readTyping (rows (c .roles) words) typing)
+    ∙ ap (λ (names : List Name). told (readTyping names typing)) (roles-told t)
     ∙ after-read true policy typing (t .is)
 
 -- ---- going from line to line
@@ -210,3 +212,15 @@ module _ (policy evidence : List ℕ) (P E : ℕ × ℕ) {place p : BadPlace} (i
   pub part-policy : place .evidence ≡ false → (part policy (place .from) (place .to) ≡ bytesAt policy evidence p) × ((P .0, place .from + P .1) ≡ beginsAt P E p)
   unfolding beginsAt
   part-policy there = subst (λ (q : BadPlace). (part policy (place .from) (place .to) ≡ bytesAt policy evidence q) × ((P .0, place .from + P .1) ≡ beginsAt P E q)) is (rw there, rw there)
+
+-- ---- in lent memory
+
+-- in enough words the refusal is that of the texts,
+pub lent-enough : (words : ℕ) (r : Refusal) → ledgerWords ≤ words → lentRefusal words r ≡ r
+unfolding lentRefusal
+lent-enough words r enough = memory-enough ledgerWords words (record { number = noMemory; line = 0 }) r enough
+
+-- and in too few no line is bad: it is nowhere, at the policy's start.
+pub lent-nowhere : (policy evidence : List ℕ) (words : ℕ) (r : Refusal) → words < ledgerWords → placeOf policy evidence (lentRefusal words r) ≡ record { evidence = false; from = 0; to = 0 }
+unfolding lentRefusal placeOf badSpan noSpan
+lent-nowhere policy evidence words r few = ap (placeOf policy evidence) (memory-short ledgerWords words (record { number = noMemory; line = 0 }) r few)

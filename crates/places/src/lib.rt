@@ -1,13 +1,18 @@
 // The refusal of two texts, and the bad line as a part of one of them.
 ghost use denote.Ref.{ptr};
 ghost use mathlib.Core.Path.{_≡_};
-ghost use Prim.Native.Nat.{_-_};
-ghost use Rattle.places.specs.Place.{refusalOf, typingRefusalOf, noSpan, spanOf, badSpan, placeOf, bytesAt, badPlace, badLine, badTypingPlace, badTypingLine, beginsAt};
+ghost use Prim.Native.Nat.{_-_, _≤_};
+ghost use lib.ListN.{length};
+ghost use Rattle.ledgers.specs.Ledger.{ledgerWords};
+ghost use Rattle.ledgers.specs.Memory.{Spared};
+ghost use Rattle.places.specs.Place.{refusalOf, typingRefusalOf, noSpan, spanOf, badSpan, placeOf, bytesAt, badPlace, badLine, badTypingPlace, badTypingLine, beginsAt, lentRefusal, LineAt};
 ghost use Rattle.places.specs.Answered.{refusalIn};
 use answering::Answer;
 use answering::check;
-use reading::directory::read_directory;
-use reading::policy::read_rules;
+use answering::check_in;
+use ledgers::NO_MEMORY;
+use ledgers::WORDS;
+use reading::read_policy;
 use typings::read_typing;
 
 // A refusal's number and line, both 0 where the texts are read.
@@ -47,30 +52,53 @@ fn refusal_of(policy: &[u8], evidence: &[u8]) -> Refusal
     refusal_in(check(policy, evidence))
 }
 
-// The refusal of a policy and a text where a typing is wanted.
-fn typing_refusal_of(policy: &[u8], typing: &[u8]) -> Refusal
+// The same in lent memory.
+fn refusal_of_in(policy: &[u8], evidence: &[u8], memory: &mut [u64]) -> Refusal
+    ensures { λ r. ⌜ r ≡ lentRefusal (length (now (memory .entry))) (refusalOf (now (policy .entry)) (now (evidence .entry))) ⌝ }
+    ensures { λ _. ⌜ Spared ledgerWords (now (memory .entry)) (now (memory .exit)) ⌝ }
+{
+    refusal_in(check_in(policy, evidence, memory))
+}
+
+// The refusal of a policy and a text where a typing is wanted, with a ledger to work in.
+fn typing_refusal_with(policy: &[u8], typing: &[u8], ledger: &mut [u64]) -> Refusal
+    requires { ⌜ ledgerWords ≤ length (now ledger) ⌝ }
     ensures { λ r. ⌜ r ≡ typingRefusalOf (now (policy .entry)) (now (typing .entry)) ⌝ }
 {
-    let d = read_directory(policy);
-    if d.refusal != 0 {
+    let p = read_policy(policy, ledger);
+    if p.refusal != 0 {
         return Refusal {
-            number: d.refusal,
-            line: d.line,
+            number: p.refusal,
+            line: p.line,
         };
     }
-    let r = read_rules(policy, &d.roles, &d.users, d.counts, d.at, d.line);
-    if r.refusal != 0 {
-        return Refusal {
-            number: r.refusal,
-            line: r.line,
-        };
-    }
-    let c = r.counts;
-    let t = read_typing(typing, &d.roles, c.roles);
+    let t = read_typing(typing, ledger, p.counts.roles);
     Refusal {
         number: t.refusal,
         line: t.line,
     }
+}
+
+// The refusal of a policy and a text where a typing is wanted.
+fn typing_refusal_of(policy: &[u8], typing: &[u8]) -> Refusal
+    ensures { λ r. ⌜ r ≡ typingRefusalOf (now (policy .entry)) (now (typing .entry)) ⌝ }
+{
+    let mut ledger = [0u64; WORDS];
+    typing_refusal_with(policy, typing, &mut ledger)
+}
+
+// The same in lent memory.
+fn typing_refusal_in(policy: &[u8], typing: &[u8], memory: &mut [u64]) -> Refusal
+    ensures { λ r. ⌜ r ≡ lentRefusal (length (now (memory .entry))) (typingRefusalOf (now (policy .entry)) (now (typing .entry))) ⌝ }
+    ensures { λ _. ⌜ Spared ledgerWords (now (memory .entry)) (now (memory .exit)) ⌝ }
+{
+    if memory.len() < WORDS {
+        return Refusal {
+            number: NO_MEMORY,
+            line: 0,
+        };
+    }
+    typing_refusal_with(policy, typing, &mut memory[..WORDS])
 }
 
 // No line.
@@ -149,6 +177,21 @@ pub fn bad_typing_place(policy: &[u8], typing: &[u8]) -> BadPlace
     place_of(policy, typing, typing_refusal_of(policy, typing))
 }
 
+// Both in lent memory, of which a ledger's words are needed: with fewer, no line is bad.
+pub fn bad_place_in(policy: &[u8], evidence: &[u8], memory: &mut [u64]) -> BadPlace
+    ensures { λ r. ⌜ r ≡ placeOf (now (policy .entry)) (now (evidence .entry)) (lentRefusal (length (now (memory .entry))) (refusalOf (now (policy .entry)) (now (evidence .entry)))) ⌝ }
+    ensures { λ _. ⌜ Spared ledgerWords (now (memory .entry)) (now (memory .exit)) ⌝ }
+{
+    place_of(policy, evidence, refusal_of_in(policy, evidence, memory))
+}
+
+pub fn bad_typing_place_in(policy: &[u8], typing: &[u8], memory: &mut [u64]) -> BadPlace
+    ensures { λ r. ⌜ r ≡ placeOf (now (policy .entry)) (now (typing .entry)) (lentRefusal (length (now (memory .entry))) (typingRefusalOf (now (policy .entry)) (now (typing .entry)))) ⌝ }
+    ensures { λ _. ⌜ Spared ledgerWords (now (memory .entry)) (now (memory .exit)) ⌝ }
+{
+    place_of(policy, typing, typing_refusal_in(policy, typing, memory))
+}
+
 // The part of one of two texts at the place of the bad line of a refusal.
 fn line_of<'a>(policy: &'a [u8], evidence: &'a [u8], r: Refusal) -> &'a [u8]
     ensures { λ line. ⌜ now line ≡ bytesAt (now (policy .entry)) (now (evidence .entry)) (placeOf (now (policy .entry)) (now (evidence .entry)) r) ⌝ }
@@ -177,4 +220,19 @@ pub fn bad_typing_line<'a>(policy: &'a [u8], typing: &'a [u8]) -> &'a [u8]
     ensures { λ r. ⌜ ptr r ≡ beginsAt (ptr (policy .entry)) (ptr (typing .entry)) (badTypingPlace (now (policy .entry)) (now (typing .entry))) ⌝ }
 {
     line_of(policy, typing, typing_refusal_of(policy, typing))
+}
+
+// Both in lent memory, of which a ledger's words are needed: with fewer, the empty part at the policy's start.
+pub fn bad_line_in<'a>(policy: &'a [u8], evidence: &'a [u8], memory: &mut [u64]) -> &'a [u8]
+    ensures { λ r. ⌜ LineAt (ptr (policy .entry)) (now (policy .entry)) (ptr (evidence .entry)) (now (evidence .entry)) (lentRefusal (length (now (memory .entry))) (refusalOf (now (policy .entry)) (now (evidence .entry)))) (ptr r) (now r) ⌝ }
+    ensures { λ _. ⌜ Spared ledgerWords (now (memory .entry)) (now (memory .exit)) ⌝ }
+{
+    line_of(policy, evidence, refusal_of_in(policy, evidence, memory))
+}
+
+pub fn bad_typing_line_in<'a>(policy: &'a [u8], typing: &'a [u8], memory: &mut [u64]) -> &'a [u8]
+    ensures { λ r. ⌜ LineAt (ptr (policy .entry)) (now (policy .entry)) (ptr (typing .entry)) (now (typing .entry)) (lentRefusal (length (now (memory .entry))) (typingRefusalOf (now (policy .entry)) (now (typing .entry)))) (ptr r) (now r) ⌝ }
+    ensures { λ _. ⌜ Spared ledgerWords (now (memory .entry)) (now (memory .exit)) ⌝ }
+{
+    line_of(policy, typing, typing_refusal_in(policy, typing, memory))
 }

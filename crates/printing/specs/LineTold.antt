@@ -1,25 +1,35 @@
 -- The line of two texts, from their named answer.
 use Prim.Native.Nat.{ℕ}
 use mathlib.Core.List.{List}
-use mathlib.Core.Path.{_≡_, sym, ap, ap₂, subst, _∙_}
+use mathlib.Core.Path.{_≡_, sym, ap, ap₂, _∙_}
 use lib.ListN.{length, take}
 use Rattle.tables.specs.declared.Name.{Name}
 use Rattle.reading.specs.Policy.{readPolicy}
 use Rattle.writing.specs.Buffers.{put-before}
+use Rattle.answering.specs.declared.Answer.{Answer}
 use Rattle.answering.specs.declared.NamedAnswer.{NamedAnswer}
 use Rattle.answering.specs.Answers.{usersIn}
 use Rattle.answering.specs.Named.{nameIn, namedOver, namedAnswer}
 use Rattle.printing.specs.Line.{lineOf, checkLine}
 use Rattle.printing.specs.LineSteps.{Line}
 
--- the line of the named answer to two texts is theirs
-pub line-told : (policy evidence : List ℕ) {named : NamedAnswer} {most count : ℕ} {space buffer : List ℕ} → named ≡ namedAnswer policy evidence
-    → ((users : List Name) → named .name ≡ nameIn users (named .answer) → Line (lineOf users (named .answer)) most space count buffer) → Line (checkLine policy evidence) most space count buffer
-unfolding checkLine namedAnswer namedOver
-line-told policy evidence {most = most} {count} {space} {buffer} given wrote =
-    let users = usersIn (readPolicy policy) in
-    let name = ap (λ (n : NamedAnswer). n .name) given ∙ sym (ap (λ (n : NamedAnswer). nameIn users (n .answer)) given) in
-    subst (λ (n : NamedAnswer). Line (lineOf users (n .answer)) most space count buffer) given (wrote users name)
+-- the name is that of the user of whom the answer speaks, over some users
+pub record NamedOver (answer : Answer) (name : Name) : Type 0 where
+  pub users : List Name
+  pub is : name ≡ nameIn users answer
+
+-- the named answer to two texts is over the users of the policy, and its line is theirs
+module _ (policy evidence : List ℕ) {named : NamedAnswer} (given : named ≡ namedAnswer policy evidence) where
+  pub name-is : named .name ≡ nameIn (usersIn (readPolicy policy)) (named .answer)
+  unfolding namedAnswer namedOver
+  name-is = ap (λ (n : NamedAnswer). n .name) given ∙ sym (ap (λ (n : NamedAnswer). nameIn (usersIn (readPolicy policy)) (n .answer)) given)
+
+  pub line-told : lineOf (usersIn (readPolicy policy)) (named .answer) ≡ checkLine policy evidence
+  unfolding checkLine namedAnswer namedOver
+  line-told = ap (λ (n : NamedAnswer). lineOf (usersIn (readPolicy policy)) (n .answer)) given
+
+  pub named-over : NamedOver (named .answer) (named .name)
+  named-over = record { users = usersIn (readPolicy policy); is = name-is }
 
 -- a line that is made stands at the start of the buffer that it is made in
 pub taken : {line : List ℕ} {most count : ℕ} {space buffer : List ℕ} → Line line most space count buffer → take count buffer ≡ line

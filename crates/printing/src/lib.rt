@@ -5,16 +5,21 @@ ghost use Prim.Native.Nat.{_+_, _≤_};
 ghost use lib.ListN.{length, take};
 ghost use Rattle.tables.specs.declared.Name.{Name};
 ghost use Rattle.text.specs.Forms.{bytes};
+ghost use Rattle.ledgers.specs.Ledger.{ledgerWords};
+ghost use Rattle.ledgers.specs.Memory.{inMemory, Spared};
 ghost use Rattle.writing.specs.Written.{spelled, decimal};
 ghost use Rattle.printing.specs.Line.{field, partText, lineOf, checkLine, shownLength, shown};
 ghost use Rattle.printing.specs.LineSteps.{Goes, Line};
+ghost use Rattle.printing.specs.LineTold.{NamedOver};
 ghost use Rattle.printing.specs.Program.{programLine};
 ghost use Rattle.printing.specs.Showing.{Shows};
 ghost use Rattle.answering.specs.declared.Answer.{Answer};
 ghost use Rattle.answering.specs.Named.{nameIn};
 use answering::Answer;
 use answering::named_answer;
+use answering::named_answer_in;
 use judging::Part;
+use ledgers::WORDS;
 use tables::Name;
 use writing::names::write_name;
 use writing::numbers::write_decimal;
@@ -148,6 +153,17 @@ fn show_line(line: &[u8], out: &mut [u8]) -> usize
     write_bytes(out, line)
 }
 
+// Makes the line of an answer with the name of the user of whom it speaks, at the start of the buffer, and answers its length; 0
+// where the buffer is too short.
+fn show_answer(answer: Answer, name: Name, out: &mut [u8]) -> usize
+    requires { ⌜ NamedOver answer name ⌝ }
+    ensures { λ r. ⌜ ((users : List Name) → name ≡ nameIn users answer → Shows (lineOf users answer) (now (out .entry)) r (now (out .exit))) ⌝ }
+{
+    let mut line = [0u8; 128];
+    let length = write_line(&mut line, answer, name);
+    show_line(&line[..length], out)
+}
+
 // Makes the line that `check` prints for two texts, at the start of the buffer, and answers its length; 0 where the buffer is too short.
 pub fn check_line(policy: &[u8], evidence: &[u8], out: &mut [u8]) -> usize
     ensures { λ r. ⌜ r ≡ shownLength (checkLine (now (policy .entry)) (now (evidence .entry))) (now (out .entry)) ⌝ }
@@ -157,9 +173,22 @@ pub fn check_line(policy: &[u8], evidence: &[u8], out: &mut [u8]) -> usize
     let named = named_answer(policy, evidence);
     let answer = named.answer;
     let name = named.name;
-    let mut line = [0u8; 128];
-    let length = write_line(&mut line, answer, name);
-    show_line(&line[..length], out)
+    show_answer(answer, name, out)
+}
+
+// The same in lent memory, of which a ledger's words are needed: with fewer, no line is made.
+pub fn check_line_in(policy: &[u8], evidence: &[u8], out: &mut [u8], memory: &mut [u64]) -> usize
+    ensures { λ r. ⌜ r ≡ inMemory ledgerWords (length (now (memory .entry))) 0 (shownLength (checkLine (now (policy .entry)) (now (evidence .entry))) (now (out .entry))) ⌝ }
+    ensures { λ _. ⌜ now (out .exit) ≡ inMemory ledgerWords (length (now (memory .entry))) (now (out .entry)) (shown (checkLine (now (policy .entry)) (now (evidence .entry))) (now (out .entry))) ⌝ }
+    ensures { λ _. ⌜ Spared ledgerWords (now (memory .entry)) (now (memory .exit)) ⌝ }
+{
+    if memory.len() < WORDS {
+        return 0;
+    }
+    let named = named_answer_in(policy, evidence, memory);
+    let answer = named.answer;
+    let name = named.name;
+    show_answer(answer, name, out)
 }
 
 // Makes the line that the program `check` prints for two files, each with whether it could be read and its bytes, at the start of

@@ -62,6 +62,7 @@ module _ {text : List ℕ} {c : Counts} {words : List ℕ} (t : Told text c word
   unfolding ledgerSays
   roles-told = roles-rows words (c .roles) ∙ ap (λ (s : Said). s .roles) (t .says)
 
-  pub users-told : rows (c .users) (take (length words - 512) (drop 512 words)) ≡ t .said .users
+  -- also of a ledger that has changed and says the same users
+  pub users-told : (later : List ℕ) → ledgerSays later c .users ≡ ledgerSays words c .users → rows (c .users) (take (length later - 512) (drop 512 later)) ≡ t .said .users
   unfolding ledgerSays
-  users-told = users-lent words (c .users) ∙ ap (λ (s : Said). s .users) (t .says)
+  users-told later same = users-lent later (c .users) ∙ same ∙ ap (λ (s : Said). s .users) (t .says)

@@ -41,7 +41,8 @@ module _ (s : Said) (text : List ℕ) where
   unfolding traceVerdict
   verdict-read reads = ap (readVerdict s) reads
 
-  verdict-run : {steps : List Step} {x : Ran} → ReadsAs s text steps → runOf (policyOf s) (s .holdings) steps ≡ x → traceVerdict s text ≡ ranVerdict (length steps) (s .goals) x
+  -- of a text that is read, what its steps run to
+  pub verdict-run : {steps : List Step} {x : Ran} → ReadsAs s text steps → runOf (policyOf s) (s .holdings) steps ≡ x → traceVerdict s text ≡ ranVerdict (length steps) (s .goals) x
   unfolding readVerdict
   verdict-run {steps} told runs =
       verdict-read (told .reads) ∙ ap (λ (l : List Step). ranVerdict (length l) (s .goals) (runOf (policyOf s) (s .holdings) l)) (told .are)

@@ -8,4 +8,3 @@ pub mod Runs
 pub mod StepExact
 pub mod Bad
 pub mod BadLaws
-pub mod Arrays

@@ -28,8 +28,11 @@ unnamed-requires-2 c κs = search needs
 returns-2 : tie.Need-returns-2
 returns-2 c = c .unnamed2 .ensures ∙ policy-refused _ _ (headless _ (c .before .before .before .before .if1 .left) (sym (c .before .before .begins-with .ensures) ∙ not-true _ (c .before .if2 .taken)))
 
-answer-read-requires : tie.Need-answer-read-requires
-answer-read-requires c κs = search needs
+slice-aggregate-answer-with : tie.Need-slice-aggregate-answer-with
+slice-aggregate-answer-with c = search needs
+
+answer-with-requires : tie.Need-answer-with-requires
+answer-with-requires c κs = search needs
 
 returns-3 : tie.Need-returns-3
 returns-3 c = search needs
@@ -44,5 +47,6 @@ named-answer-spec =
     begins-with-requires
     unnamed-requires-2
     returns-2
-    answer-read-requires
+    slice-aggregate-answer-with
+    answer-with-requires
     returns-3)

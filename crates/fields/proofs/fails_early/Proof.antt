@@ -23,7 +23,7 @@ are-set-requires : tie.Need-are-set-requires
 are-set-requires c κs = omega (arith, length-take (c .before .seek .result) (c .before .before .before .before .args .field .now))
 
 returns-2 : tie.Need-returns-2
-returns-2 c = λ told. start-fails _ (c .before .before .before .before .before .args .size) _ (c .before .before .seek .ensures) (sym (c .are-set .ensures) ∙ not-true (c .are-set .result) told)
+returns-2 c = λ told. start-fails _ 1024 _ (c .before .before .seek .ensures) (sym (c .are-set .ensures) ∙ not-true (c .are-set .result) told)
 
 pub fails-early-spec : {M : Type 1} → statement M
 fails-early-spec =

@@ -15,29 +15,20 @@ malformed-set-requires c κs = search needs
 returns : tie.Need-returns
 returns c = c .malformed-set .ensures ∙ undeclared-malformed _ (c .before .before .before .before .pre .1) (c .before .before .fails-early .ensures (c .before .if1 .taken))
 
-fails-early-requires-2 : tie.Need-fails-early-requires-2
-fails-early-requires-2 c κs = search needs
+are-set-requires : tie.Need-are-set-requires
+are-set-requires c κs = search needs
 
 malformed-set-requires-2 : tie.Need-malformed-set-requires-2
 malformed-set-requires-2 c κs = search needs
 
 returns-2 : tie.Need-returns-2
-returns-2 c = c .malformed-set2 .ensures ∙ undeclared-malformed _ (c .before .before .before .before .before .before .pre .1) (c .before .before .fails-early2 .ensures (c .before .if2 .taken))
-
-are-set-requires : tie.Need-are-set-requires
-are-set-requires c κs = search needs
-
-malformed-set-requires-3 : tie.Need-malformed-set-requires-3
-malformed-set-requires-3 c κs = search needs
-
-returns-3 : tie.Need-returns-3
-returns-3 c = c .malformed-set3 .ensures ∙ undeclared-malformed _ (c .before .before .before .before .before .before .before .before .pre .1) (sym (c .before .before .are-set .ensures) ∙ not-true (c .before .before .are-set .result) (c .before .if3 .taken))
+returns-2 c = c .malformed-set2 .ensures ∙ undeclared-malformed _ (c .before .before .before .before .before .before .pre .1) (sym (c .before .before .are-set .ensures) ∙ not-true (c .before .before .are-set .result) (c .before .if2 .taken))
 
 empty-requires : tie.Need-empty-requires
 empty-requires c κs = search needs
 
-returns-4 : tie.Need-returns-4
-returns-4 c = (λ i. record { fault = 1; roles = c .empty .ensures i }) ∙ undeclared-set _ (c .before .before .before .before .before .before .before .before .pre .1) (sym (c .before .before .are-set .ensures) ∙ not-false (c .before .before .are-set .result) (c .before .if3 .left))
+returns-3 : tie.Need-returns-3
+returns-3 c = (λ i. record { fault = 1; roles = c .empty .ensures i }) ∙ undeclared-set _ (c .before .before .before .before .before .before .pre .1) (sym (c .before .before .are-set .ensures) ∙ not-false (c .before .before .are-set .result) (c .before .if2 .left))
 
 pub read-undeclared-spec : {M : Type 1} → statement M
 read-undeclared-spec =
@@ -46,11 +37,8 @@ read-undeclared-spec =
     fails-early-requires
     malformed-set-requires
     returns
-    fails-early-requires-2
+    are-set-requires
     malformed-set-requires-2
     returns-2
-    are-set-requires
-    malformed-set-requires-3
-    returns-3
     empty-requires
-    returns-4)
+    returns-3)
