@@ -29,7 +29,7 @@ module _ (memory : List ℕ) (enough : mergeWords ≤ length memory) where
   pub one-room : length (ledgerOne memory) ≡ ledgerWords
   one-room = length-take-le ledgerWords memory (omega arith)
 
-  pub two-long : length (ledgerTwo memory) ≡ length memory - ledgerWords
+  two-long : length (ledgerTwo memory) ≡ length memory - ledgerWords
   two-long = length-take-le (length memory - ledgerWords) (drop ledgerWords memory) (omega (arith, length-drop ledgerWords memory))
 
   pub two-room : ledgerWords ≤ length (ledgerTwo memory)

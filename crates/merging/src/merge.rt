@@ -18,6 +18,7 @@ use judging::TypingVerdict;
 use judging::judge_rules;
 use judging::judge_typing;
 use judging::pinned;
+use ledgers::NO_MEMORY;
 use ledgers::WORDS;
 use lines::Counts;
 use model::Typing;
@@ -164,7 +165,7 @@ pub fn merge_in(
     ensures { λ _. ⌜ Spared mergeWords (now (memory .entry)) (now (memory .exit)) ⌝ }
 {
     if memory.len() < MERGE_WORDS {
-        return MergeAnswer::Refused(0, 254, 0);
+        return MergeAnswer::Refused(0, NO_MEMORY, 0);
     }
     merge_with(
         policy_1,

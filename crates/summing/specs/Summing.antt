@@ -2,7 +2,7 @@
 use Prim.Native.Nat.{ℕ, zero, suc, _+_, _≤_, _<_}
 use mathlib.Core.Bool.{Bool, _||_}
 use mathlib.Core.List.{List, [], _∷_}
-use mathlib.Core.Path.{_≡_, refl, sym, ap, ap₂, _∙_}
+use mathlib.Core.Path.{_≡_, refl, sym, ap, _∙_}
 use lib.ListN.{length, getD, set}
 use native.Mathlib.Numerals.{add-one}
 use native.Mathlib.Omega.{arith}
@@ -21,7 +21,7 @@ module _ {A : Type 0} (f : A → A → A) where
   partly (suc n) (x ∷ xs) (y ∷ ys) = f x y ∷ partly n xs ys
 
   -- one element more
-  partly-next : (xs ys : List A) (n : ℕ) (past : A) → n < length xs → length xs ≡ length ys → set (partly n xs ys) n (f (getD xs n past) (getD ys n past)) ≡ partly (suc n) xs ys
+  partly-next : (xs ys : List A) (n : ℕ) (past : A) → n < length xs → length xs ≡ length ys → set (partly n xs ys) n (f (getD (partly n xs ys) n past) (getD ys n past)) ≡ partly (suc n) xs ys
   unfolding partly
   partly-next [] ys n past here even = absurd (omega arith)
   partly-next (x ∷ xs) [] n past here even = absurd (omega arith)
@@ -53,13 +53,13 @@ summed-start one two = record { one = one; two = two; labels = refl; plus = refl
 module _ {t u s : Table} {role : ℕ} (so-far : Summed t u s role) where
   -- one array with the element of one role more
   next : {A : Type 0} (f : A → A → A) (xs ys : List A) {zs : List A} (past : A) {a : A} → role < 128 → length xs ≡ 128 → length ys ≡ 128
-      → zs ≡ partly f role xs ys → a ≡ f (getD xs role past) (getD ys role past) → set zs role a ≡ partly f (role + 1) xs ys
-  next f xs ys past here one two is element =
-      ap₂ (λ (l : List _) (b : _). set l role b) is element ∙ partly-next f xs ys role past (omega arith) (one ∙ sym two) ∙ ap (λ (k : ℕ). partly f k xs ys) (sym (add-one role))
+      → zs ≡ partly f role xs ys → a ≡ f (getD zs role past) (getD ys role past) → set zs role a ≡ partly f (role + 1) xs ys
+  next f xs ys {zs} past here one two is element =
+      ap (set zs role) element ∙ ap (λ (l : List _). set l role (f (getD l role past) (getD ys role past))) is ∙ partly-next f xs ys role past (omega arith) (one ∙ sym two) ∙ ap (λ (k : ℕ). partly f k xs ys) (sym (add-one role))
 
   -- the three arrays with one role more
-  pub summed-next : role < 128 → (low : Bool) (none : RoleSet) {plus minus : RoleSet} → plus ≡ unionOf (getD (t .plus) role none) (getD (u .plus) role none) → minus ≡ unionOf (getD (t .minus) role none) (getD (u .minus) role none)
-      → Summed t u (record { labels = set (s .labels) role (getD (t .labels) role low || getD (u .labels) role low); plus = set (s .plus) role plus; minus = set (s .minus) role minus }) (role + 1)
+  pub summed-next : role < 128 → (low : Bool) (none : RoleSet) {plus minus : RoleSet} → plus ≡ unionOf (getD (s .plus) role none) (getD (u .plus) role none) → minus ≡ unionOf (getD (s .minus) role none) (getD (u .minus) role none)
+      → Summed t u (record { labels = set (s .labels) role (getD (s .labels) role low || getD (u .labels) role low); plus = set (s .plus) role plus; minus = set (s .minus) role minus }) (role + 1)
   summed-next here low none plus minus = record {
     one = so-far .one;
     two = so-far .two;

@@ -11,6 +11,7 @@ ghost use Rattle.summing.specs.Sum.{sumWritten, sumOutcome};
 ghost use Rattle.summing.specs.Sums.{sumOf};
 use crate::fitting::write_fitting;
 use judging::pinned;
+use ledgers::NO_MEMORY;
 use ledgers::WORDS;
 use model::Typing;
 use reading::read_policy;
@@ -33,11 +34,11 @@ pub fn sum_of(t: Typing, u: Typing) -> Typing
     let mut s = t;
     let mut role = 0;
     while role < 128 {
-        let plus = t.plus[role];
+        let plus = s.plus[role];
         let more = u.plus[role];
-        let minus = t.minus[role];
+        let minus = s.minus[role];
         let less = u.minus[role];
-        s.labels[role] = t.labels[role] | u.labels[role];
+        s.labels[role] = s.labels[role] | u.labels[role];
         s.plus[role] = plus.union(more);
         s.minus[role] = minus.union(less);
         role += 1;
@@ -106,7 +107,7 @@ pub fn sum_in(
     ensures { λ _. ⌜ Spared ledgerWords (now (memory .entry)) (now (memory .exit)) ⌝ }
 {
     if memory.len() < WORDS {
-        return SumAnswer::Refused(0, 254, 0);
+        return SumAnswer::Refused(0, NO_MEMORY, 0);
     }
     sum_with(policy, first, second, out, &mut memory[..WORDS])
 }

@@ -8,10 +8,10 @@ use Rattle.summing.proofs.sum_of.Statement.{statement}
 use Rattle.summing.proofs.sum_of.Tie as tie
 
 abbrev Inv-loop : tie.InvT-loop
-Inv-loop t u s₀ role₀ s role = Summed t u s role
+Inv-loop u s₀ role₀ s role = Summed s₀ u s role
 
 abbrev μ-loop : tie.MeasureT-loop
-μ-loop t u s₀ role₀ s role = 128 - role
+μ-loop u s₀ role₀ s role = 128 - role
 
 loop-holds : tie.Need-loop-holds Inv-loop μ-loop
 loop-holds c =
@@ -65,8 +65,8 @@ element-set-from-s c = omega arith
 union-requires-2 : tie.Need-union-requires-2 Inv-loop μ-loop
 union-requires-2 c κs = search needs
 
-mul-t13 : tie.Need-mul-t13 Inv-loop μ-loop
-mul-t13 c = omega arith
+mul-t11 : tie.Need-mul-t11 Inv-loop μ-loop
+mul-t11 c = omega arith
 
 element-set-from-s-2 : tie.Need-element-set-from-s-2 Inv-loop μ-loop
 element-set-from-s-2 c = omega arith
@@ -107,7 +107,7 @@ sum-of-spec =
     mul-s
     element-set-from-s
     union-requires-2
-    mul-t13
+    mul-t11
     element-set-from-s-2
     add-role
     loop-less
