@@ -128,18 +128,6 @@ pub fn read_line(line: &[u8], roles: &[u64], count: usize, stage: usize) -> Typi
     )
 }
 
-// The typing of no rows: L and empty sets.
-fn no_typing() -> Typing
-    ensures { λ r. ⌜ r ≡ tableOf untyped ⌝ }
-{
-    let none = RoleSet::empty();
-    Typing {
-        labels: [false; 128],
-        plus: [none; 128],
-        minus: [none; 128],
-    }
-}
-
 // A refusal, with the typing of no rows. It is given, so that there is one of it in a reader's frame.
 fn refused(refusal: u64, line: usize, typing: Typing) -> TypingRead
     requires { ⌜ typing ≡ tableOf untyped ⌝ }
@@ -167,7 +155,12 @@ pub fn read_typing(text: &[u8], roles: &[u64], count: usize) -> TypingRead
     requires { ⌜ (4 * count ≤ length (now roles)) × (count ≤ 128) ⌝ }
     ensures { λ r. ⌜ r ≡ typingRead (rows count (now (roles .entry))) (now (text .entry)) ⌝ }
 {
-    let none = no_typing();
+    let empty = RoleSet::empty();
+    let none = Typing {
+        labels: [false; 128],
+        plus: [empty; 128],
+        minus: [empty; 128],
+    };
     let end = text.len();
     if 32768 < end {
         return refused(14, 0, none);

@@ -1,11 +1,15 @@
 -- `read_typing` goes from line to line: the arrays hold what the rows so far say, and the rest of the text decides.
 use Prim.Native.Nat.{ℕ, _-_}
 use borrow.Author.Needs.{needs}
-use lib.ListN.{length}
-use mathlib.Core.Path.{ap, _∙_}
+use lib.ListN.{length, replicate}
+use mathlib.Core.Bool.{false}
+use mathlib.Core.Path.{_≡_, ap, _∙_}
 use native.Mathlib.Omega.{arith}
 use Rattle.typings.specs.TypingReached.{Reached, reached-start, reached-end, reached-tail, refused-long, row-fits, line-refused, line-header, line-row, line-last, line-more}
-use Rattle.typings.specs.TypingText.{codeOf, refusedTyping}
+use Rattle.roles.specs.declared.RoleSet.{RoleSet}
+use Rattle.model.specs.declared.Typing.{Typing}
+use Rattle.tables.specs.Padded.{padded}
+use Rattle.typings.specs.TypingText.{codeOf, untyped, tableOf, refusedTyping}
 use Rattle.typings.specs.declared.TypingLine.{TypingLine}
 use Rattle.tables.specs.Names.{rows}
 use Rattle.tables.specs.NameLaws.{rows-length}
@@ -19,23 +23,34 @@ Inv-loop text roles count none end typing₀ stage₀ at₀ number₀ typing sta
 abbrev μ-loop : tie.MeasureT-loop
 μ-loop text roles count none end typing₀ stage₀ at₀ number₀ typing stage at number = length text - at
 
+empty-requires : tie.Need-empty-requires Inv-loop μ-loop
+empty-requires c κs = search needs
+
+-- every array is filled with what a typing of no rows is laid out with
+filled : RoleSet → Typing
+filled none = record { labels = replicate 128 false; plus = replicate 128 none; minus = replicate 128 none }
+
+blank : (c : tie.After-empty Inv-loop μ-loop) → filled (c .empty .result) ≡ tableOf untyped
+unfolding filled tableOf padded untyped
+blank c = ap filled (c .empty .ensures)
+
 refused-requires : tie.Need-refused-requires Inv-loop μ-loop
-refused-requires c κs = c .before .no-typing .ensures
+unfolding filled
+refused-requires c κs = blank (c .before)
 
 returns : tie.Need-returns Inv-loop μ-loop
 returns c = c .refused .ensures ∙ refused-long _ _ (c .before .if1 .taken)
 
-no-typing-requires : tie.Need-no-typing-requires Inv-loop μ-loop
-no-typing-requires c κs = search needs
-
 loop-holds : tie.Need-loop-holds Inv-loop μ-loop
-loop-holds c = reached-start _ _ (c .if1 .left) (c .before .no-typing .ensures)
+unfolding filled
+loop-holds c = reached-start _ _ (c .if1 .left) (blank (c .before))
 
 seek-requires : tie.Need-seek-requires Inv-loop μ-loop
 seek-requires c κs = (c .before .loop .inv) .on .within
 
 refused-requires-2 : tie.Need-refused-requires-2 Inv-loop μ-loop
-refused-requires-2 c κs = c .before .before .before .before .before .no-typing .ensures
+unfolding filled
+refused-requires-2 c κs = blank (c .before .before .before .before .before)
 
 returns-2 : tie.Need-returns-2 Inv-loop μ-loop
 returns-2 c = c .refused2 .ensures ∙ reached-tail (c .before .before .before .before .loop .inv) (c .before .before .seek .ensures) (c .before .if2 .taken)
@@ -68,7 +83,8 @@ code-requires : tie.Need-code-requires Inv-loop μ-loop
 code-requires c κs = search needs
 
 refused-requires-3 : tie.Need-refused-requires-3 Inv-loop μ-loop
-refused-requires-3 c κs = c .before .before .before .before .before .before .before .before .before .before .no-typing .ensures
+unfolding filled
+refused-requires-3 c κs = blank (c .before .before .before .before .before .before .before .before .before .before)
 
 returns-3 : tie.Need-returns-3 Inv-loop μ-loop
 unfolding codeOf
@@ -117,7 +133,8 @@ enum-told-3 : tie.Need-enum-told-3 Inv-loop μ-loop
 enum-told-3 c = search needs
 
 refused-requires-4 : tie.Need-refused-requires-4 Inv-loop μ-loop
-refused-requires-4 c κs = c .before .before .before .before .before .before .before .before .before .before .before .before .before .no-typing .ensures
+unfolding filled
+refused-requires-4 c κs = blank (c .before .before .before .before .before .before .before .before .before .before .before .before .before)
 
 returns-4 : tie.Need-returns-4 Inv-loop μ-loop
 returns-4 c = c .refused4 .ensures ∙ line-more (c .before .before .before .before .before .before .before .before .before .before .before .before .loop .inv) (c .before .before .before .before .before .before .before .before .before .before .seek .ensures) (omega (arith, c .before .before .before .before .before .before .before .before .before .before .seek .ensures, c .before .before .before .before .before .before .before .before .before .if2 .left)) (c .before .before .before .before .before .before .before .read-line .ensures) (c .before .before .before .before .before .answer .given .1 ∙ ap TypingLine.Good (c .before .before .enum-told3 .given .1)) (c .before .if3 .taken)
@@ -126,7 +143,8 @@ returns-5 : tie.Need-returns-5 Inv-loop μ-loop
 returns-5 c = line-last (c .before .before .before .before .before .before .before .before .before .before .before .loop .inv) (c .before .before .before .before .before .before .before .before .before .seek .ensures) (omega (arith, c .before .before .before .before .before .before .before .before .before .seek .ensures, c .before .before .before .before .before .before .before .before .if2 .left)) (c .before .before .before .before .before .before .read-line .ensures) (c .before .before .before .before .answer .given .1 ∙ ap TypingLine.Good (c .before .enum-told3 .given .1)) (c .if3 .left)
 
 refused-requires-5 : tie.Need-refused-requires-5 Inv-loop μ-loop
-refused-requires-5 c κs = c .before .before .before .no-typing .ensures
+unfolding filled
+refused-requires-5 c κs = blank (c .before .before .before)
 
 returns-6 : tie.Need-returns-6 Inv-loop μ-loop
 returns-6 c = c .refused5 .ensures ∙ reached-end (c .before .before .loop .inv) (c .before .loop-test .left)
@@ -137,7 +155,7 @@ read-typing-spec =
     (tie.spec
     Inv-loop
     μ-loop
-    no-typing-requires
+    empty-requires
     refused-requires
     returns
     loop-holds
