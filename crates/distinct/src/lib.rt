@@ -163,8 +163,8 @@ fn block(field: &[u8]) -> usize
         let mut some = [0u16; 2048];
         return block_with(field, &mut some, 512);
     }
-    let mut many = [0u16; 6144];
-    block_with(field, &mut many, 1536)
+    let mut many = [0u16; 5632];
+    block_with(field, &mut many, 1408)
 }
 
 // Whether some name stands twice in a field of names joined by commas.

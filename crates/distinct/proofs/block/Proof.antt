@@ -26,7 +26,7 @@ slice-aggregate-block-with-3 : tie.Need-slice-aggregate-block-with-3
 slice-aggregate-block-with-3 c = search needs
 
 block-with-requires-3 : tie.Need-block-with-requires-3
-block-with-requires-3 c κs = (c .before .before .before .before .pre, search needs, zeros-blank 6144)
+block-with-requires-3 c κs = (c .before .before .before .before .pre, search needs, zeros-blank 5632)
 
 returns-3 : tie.Need-returns-3
 returns-3 c = search needs
