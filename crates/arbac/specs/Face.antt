@@ -64,3 +64,10 @@ pub data IsMerged : MergeAnswer → Type 0 where
 pub record Answered (width : ℕ) (array : List ℕ) (Success : Type 0) (answered : ℕ) : Type 0 where
   pub none-told : answered ≡ noRoom ↔ length array < width
   pub zero-told : answered ≡ 0 ↔ (width ≤ length array) × Success
+
+-- In lent memory 254 is answered exactly where the array has room and the memory too few words, and 0 exactly where there is enough of
+-- both and the answer is a success.
+pub record AnsweredLent (needed width : ℕ) (memory array : List ℕ) (Success : Type 0) (answered : ℕ) : Type 0 where
+  pub none-told : answered ≡ noRoom ↔ length array < width
+  pub few-told : answered ≡ noMemory ↔ (width ≤ length array) × (length memory < needed)
+  pub zero-told : answered ≡ 0 ↔ (width ≤ length array) × (needed ≤ length memory) × Success

@@ -1,16 +1,18 @@
 -- What a C caller may rely on: 255 means that there was no room and 0 a success, every value is told or zero, the place of the bad line is its place, and no line is longer than 128 bytes.
 use Prim.Native.Nat.{ℕ, _-_, _≤_}
-use borrow.Author.Tests.{leb-true, leb-false, le-leb}
+use borrow.Author.Tests.{leb-true, leb-false, le-leb, ltb-true, ltb-false}
 use mathlib.Core.Bool.{Bool, true, false, cond}
 use mathlib.Core.List.{List}
 use mathlib.Core.Logic.{_↔_}
 use mathlib.Core.Path.{_≡_, refl, sym, ap, _∙_}
-use lib.Dec.{leb, lit≤}
+use lib.Dec.{leb, ltb, lit≤}
 use lib.ListN.{length, take, drop, replicate, length-append}
 use lib.Seq.{drop-append-seam}
 use native.Mathlib.Omega.{arith}
 use Rattle.tables.specs.declared.Name.{Name}
 use Rattle.tables.specs.Padded.{padded}
+use Rattle.ledgers.specs.Ledger.{ledgerWords}
+use Rattle.ledgers.specs.Memory.{noMemory, inMemory}
 use Rattle.places.specs.declared.BadPlace.{BadPlace}
 use Rattle.places.specs.Place.{bytesAt, badPlace, badLine, badTypingPlace, badTypingLine}
 use Rattle.judging.specs.declared.Part.{Part}
@@ -27,7 +29,7 @@ use Rattle.answering.specs.Answers.{numberOf, answerOf, nameAt}
 use Rattle.printing.specs.Line.{field, partText, lineOf, checkLine}
 use Rattle.printing.specs.Program.{noFile, programLine}
 use Rattle.telling.specs.Numbers.{placeText}
-use Rattle.arbac.specs.Face.{noRoom, roomFor, toldNumber, toldIn, IsSafe, safe, IsSummed, summed, IsMerged, merged, Answered}
+use Rattle.arbac.specs.Face.{noRoom, roomFor, toldNumber, toldIn, IsSafe, safe, IsSummed, summed, IsMerged, merged, Answered, lentNumber, AnsweredLent}
 use Rattle.arbac.specs.FaceNumbers.{check-numbered, sum-numbered, merge-numbered}
 
 -- ---- the number that is answered
@@ -47,6 +49,36 @@ told-so {number} {Success} width array listed zero = go (leb width (length array
     go false e =
         let short = leb-false width (length array) e in
         record { none-told = (λ none. short, λ less. refl); zero-told = (λ is. absurd (omega (arith, is)), λ told. absurd (omega (arith, short, told .0))) }
+
+-- the same in lent memory
+lent-so : {number : ℕ} {Success : Type 0} (needed width : ℕ) (memory array : List ℕ) → number ≤ 19 → number ≡ 0 ↔ Success → AnsweredLent needed width memory array Success (lentNumber needed width number memory array)
+unfolding lentNumber toldNumber roomFor inMemory
+lent-so {number} {Success} needed width memory array listed zero = go (leb width (length array)) (ltb (length memory) needed) refl refl
+  where
+    go : (b few : Bool) → leb width (length array) ≡ b → ltb (length memory) needed ≡ few → AnsweredLent needed width memory array Success (cond b (cond few noMemory number) noRoom)
+    go true true e f =
+        let room = leb-true width (length array) e in
+        let short = ltb-true (length memory) needed f in
+        record {
+          none-told = (λ none. absurd (omega (arith, none)), λ less. absurd (omega (arith, room, less)));
+          few-told = (λ is. (room, short), λ told. refl);
+          zero-told = (λ is. absurd (omega (arith, is)), λ told. absurd (omega (arith, short, told .1)));
+        }
+    go true false e f =
+        let room = leb-true width (length array) e in
+        let enough = ltb-false (length memory) needed f in
+        record {
+          none-told = (λ none. absurd (omega (arith, none, listed)), λ less. absurd (omega (arith, room, less)));
+          few-told = (λ is. absurd (omega (arith, is, listed)), λ told. absurd (omega (arith, enough, told .1)));
+          zero-told = (λ is. (room, enough, zero .0 is), λ told. zero .1 (told .2));
+        }
+    go false few e f =
+        let short = leb-false width (length array) e in
+        record {
+          none-told = (λ none. short, λ less. refl);
+          few-told = (λ is. absurd (omega (arith, is)), λ told. absurd (omega (arith, short, told .0)));
+          zero-told = (λ is. absurd (omega (arith, is)), λ told. absurd (omega (arith, short, told .0)));
+        }
 
 -- the number of a success
 safe-zero : {answer : Answer} → IsSafe answer → numberOf answer ≡ 0
@@ -74,6 +106,24 @@ pub merge-told : (policy₁ typing₁ policy₂ typing₂ : List ℕ) (room : �
 merge-told policy₁ typing₁ policy₂ typing₂ room array =
     let n = merge-numbered policy₁ typing₁ policy₂ typing₂ room in
     told-so 6 array (n .listed) (n .zero-only, merged-zero)
+
+-- in lent memory too,
+pub check-lent : (policy evidence memory array : List ℕ) → let answer = answerOf policy evidence in AnsweredLent ledgerWords 5 memory array (IsSafe answer) (lentNumber ledgerWords 5 (numberOf answer) memory array)
+check-lent policy evidence memory array =
+    let n = check-numbered policy evidence in
+    lent-so ledgerWords 5 memory array (n .listed) (n .zero-only, safe-zero)
+
+pub sum-lent : (policy first second : List ℕ) (room : ℕ) (memory array : List ℕ) → let answer = answerIn (sum.sumOutcome policy first second room) in
+    AnsweredLent ledgerWords 2 memory array (IsSummed answer) (lentNumber ledgerWords 2 (sum.numberOf answer) memory array)
+sum-lent policy first second room memory array =
+    let n = sum-numbered policy first second room in
+    lent-so ledgerWords 2 memory array (n .listed) (n .zero-only, summed-zero)
+
+pub merge-lent : (policy₁ typing₁ policy₂ typing₂ : List ℕ) (room : ℕ) (memory array : List ℕ) → let answer = answerIn (merge.mergeOutcome policy₁ typing₁ policy₂ typing₂ room) in
+    AnsweredLent merge.mergeWords 6 memory array (IsMerged answer) (lentNumber merge.mergeWords 6 (merge.numberOf answer) memory array)
+merge-lent policy₁ typing₁ policy₂ typing₂ room memory array =
+    let n = merge-numbered policy₁ typing₁ policy₂ typing₂ room in
+    lent-so merge.mergeWords 6 memory array (n .listed) (n .zero-only, merged-zero)
 
 -- and the functions that tell a place never.
 pub bad-place-told : (place : BadPlace) (array : List ℕ) → Answered 2 array ⊥ (toldNumber 2 (placeText place) array)

@@ -3,7 +3,7 @@
 ghost use mathlib.Core.Path.{_≡_};
 ghost use lib.ListN.{length};
 ghost use Rattle.ledgers.specs.Ledger.{ledgerWords};
-ghost use Rattle.ledgers.specs.Memory.{noMemory, inMemory, Spared};
+ghost use Rattle.ledgers.specs.Memory.{inMemory, Spared};
 ghost use Rattle.summing.specs.Outcome.{answerIn};
 ghost use Rattle.places.specs.Place.{badPlace, badTypingPlace};
 ghost use Rattle.summing.specs.Sum.{sumOutcome};

@@ -13,7 +13,7 @@ use Rattle.lines.specs.declared.Entry.{Entry}
 use Rattle.lines.specs.declared.PolicyLine.{PolicyLine}
 use Rattle.lines.specs.Lines.{lineOf, endKind}
 use Rattle.lines.specs.LineLaws.{GoodLine, Fitting, good-fits}
-use Rattle.walking.specs.Texts.{Judged, goes, read, refused}
+use Rattle.walking.specs.Texts.{Judged, read, refused}
 use Rattle.walking.specs.Walk.{On, on-start, on-end, on-tail, on-bad, on-goes, on-last, on-more}
 use Rattle.reading.specs.declared.PolicyRead.{PolicyRead}
 use Rattle.reading.specs.Policy.{Said, nothing, countsOf, kindOf, added, leads, judgeLine, readPolicy}

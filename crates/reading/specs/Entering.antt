@@ -21,7 +21,7 @@ use Rattle.ledgers.specs.LedgerLaws.{roles-faithful, users-faithful, people-fai
 use Rattle.lines.specs.declared.Counts.{Counts}
 use Rattle.lines.specs.declared.Entry.{Entry}
 use Rattle.lines.specs.Lines.{roleKind, userKind, hasKind, assignKind, revokeKind, goalKind}
-use Rattle.reading.specs.Policy.{Said, kindOf, noted, added}
+use Rattle.reading.specs.Policy.{kindOf, noted, added}
 use Rattle.reading.specs.Ledger.{ledgerSays, Limited}
 
 -- ---- the parts that a run of stores leaves as they were

@@ -2,7 +2,6 @@
 use Prim.Native.Nat.{ℕ}
 use mathlib.Core.List.{List}
 use mathlib.Core.Path.{_≡_}
-use Rattle.lines.specs.declared.Counts.{Counts}
 use Rattle.walking.specs.Texts.{Reading, read, refused}
 use Rattle.reading.specs.declared.PolicyRead.{PolicyRead}
 use Rattle.reading.specs.Policy.{Said, nothing, countsOf, readPolicy}

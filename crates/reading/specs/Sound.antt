@@ -69,7 +69,7 @@ pub record Sound (s : Said) : Type 0 where
 -- ---- one part changed, and all else as it was
 
 module _ {s : Said} (h : Sound s) where
-  pub at-stage : (kind : ℕ) → Sound (atStage kind s)
+  at-stage : (kind : ℕ) → Sound (atStage kind s)
   at-stage kind = record { roles = h .roles; users = h .users; people = h .people; holdings = h .holdings; assigns = h .assigns; revokes = h .revokes; goals = h .goals }
 
   say-users : {users : List Name} {holdings : State} → Listing 64 users → length holdings ≡ length users → ((p : Person) → Listed p holdings → PersonOver (length (s .roles)) p)

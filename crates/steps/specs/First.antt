@@ -1,12 +1,10 @@
 -- The first element of a list that passes a test, told by its number from 1.
-use Prim.Native.Nat.{ℕ, zero, suc, _+_, _≤_, _<_, min}
+use Prim.Native.Nat.{ℕ, zero, suc, _+_, _<_}
 use mathlib.Core.Bool.{Bool, true, false, cond}
 use mathlib.Core.List.{List, [], _∷_}
 use mathlib.Core.Logic.{_↔_, _⊎_, inl, inr}
 use mathlib.Core.Path.{_≡_, refl, _∙_}
-use lib.ListN.{length, getD, take, drop, length-take, drop-of-length-le}
-use lib.Seq.{drop-cons, getD-take}
-use native.Mathlib.Numerals.{add-one}
+use lib.ListN.{length, getD}
 use native.Mathlib.Omega.{arith}
 
 -- the number of the first that passes, where so many stand before the list; 0 where none does
@@ -16,32 +14,6 @@ firstFrom test before (a ∷ l) = cond (test a) (suc before) (firstFrom test (su
 
 unfoldable pub first : {A : Type 0} → (A → Bool) → List A → ℕ
 first test l = firstFrom test 0 l
-
--- ---- going by places through the first elements of an array, of which there are at most as many as it has
-
-module _ {A : Type 0} (test : A → Bool) (l : List A) (count place : ℕ) where
-  -- the element at the place passes
-  pub from-here : (d : A) → place < min count (length l) → test (getD l place d) ≡ true → firstFrom test place (drop place (take count l)) ≡ place + 1
-  unfolding firstFrom
-  from-here d inside e =
-      let within : place < length (take count l) = omega (arith, length-take count l) in
-      let below : place < count = omega arith in
-      rw (drop-cons (take count l) place d within, getD-take count l place d below, e, add-one place)
-
-  -- it does not
-  pub from-next : (d : A) → place < min count (length l) → test (getD l place d) ≡ false → firstFrom test place (drop place (take count l)) ≡ firstFrom test (place + 1) (drop (place + 1) (take count l))
-  unfolding firstFrom
-  from-next d inside e =
-      let within : place < length (take count l) = omega (arith, length-take count l) in
-      let below : place < count = omega arith in
-      rw (drop-cons (take count l) place d within, getD-take count l place d below, e, add-one place)
-
-  -- nothing is left
-  pub from-end : min count (length l) ≤ place → firstFrom test place (drop place (take count l)) ≡ 0
-  unfolding firstFrom
-  from-end past =
-      let none : length (take count l) ≤ place = omega (arith, length-take count l) in
-      rw (drop-of-length-le (take count l) none)
 
 -- ---- what the number says
 

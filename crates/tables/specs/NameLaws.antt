@@ -14,7 +14,7 @@ use Rattle.tables.specs.declared.Name.{Name}
 use Rattle.text.specs.Eights.{eight-bytes}
 use Rattle.text.specs.Forms.{every, nameByte, isName}
 use Rattle.text.specs.FormLaws.{name-byte-range, every-take, every-drop}
-use Rattle.tables.specs.Names.{packed, placeOf, rowOf, rows, sameName, value, wordsOf}
+use Rattle.tables.specs.Names.{packed, placeOf, rowOf, rows, sameName, value}
 
 -- ---- packing eight bytes, the last first
 
@@ -145,12 +145,7 @@ packed-one-to-one s t hs ht same =
     (rejoin 8 (drop 24 s) (drop 24 t) (eight s t 24 (name .1) (other .1) (ap (λ (n : Name). n .fourth) same))
     (rw (drop-drop 8 24 s, drop-drop 8 24 t) (drop-of-length-le s most ∙ sym (drop-of-length-le t most′))))))))
 
--- ---- a table laid out
-
-pub rows-laid : (names : List Name) (rest : List ℕ) → rows (length names) (wordsOf names ++ rest) ≡ names
-unfolding rows wordsOf rowOf
-rows-laid [] rest = refl
-rows-laid (name ∷ names) rest = ap (λ (ns : List Name). name ∷ ns) (rows-laid names rest)
+-- ---- how many names a table has
 
 pub rows-length : (count : ℕ) (table : List ℕ) → length (rows count table) ≡ count
 unfolding rows

@@ -3,7 +3,7 @@ use Prim.Native.Nat.{ℕ, zero, suc, _+_, _*_}
 use mathlib.Core.Bool.{Bool, cond, _&&_}
 use mathlib.Core.List.{List, [], _∷_}
 use lib.Dec.{eqb}
-use lib.ListN.{getD, set, take, drop}
+use lib.ListN.{getD, take, drop}
 use Rattle.tables.specs.declared.Name.{Name}
 
 -- bytes as one number, the first byte lowest
@@ -37,15 +37,3 @@ rowOf table = record { first = getD table 0 0; second = getD table 1 0; third = 
 unfoldable pub rows : ℕ → List ℕ → List Name
 rows zero table = []
 rows (suc count) table = rowOf table ∷ rows count (drop 4 table)
-
--- a table with a name's words at a place
-unfoldable pub stored : List ℕ → ℕ → Name → List ℕ
-stored table place name =
-    set (set (set (set table (4 * place) (name .first)) (4 * place + 1) (name .second)) (4 * place + 2) (name .third)) (4 * place + 3) (name .fourth)
-
--- The words of names, one after the other.
-unfoldable pub wordsOf : List Name → List ℕ
-wordsOf [] = []
-wordsOf (name ∷ rest) = name .first ∷ name .second ∷ name .third ∷ name .fourth ∷ wordsOf rest
-
--- reading a laid out table gives the names

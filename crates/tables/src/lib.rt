@@ -1,8 +1,8 @@
-// A name packed into four words, and tables of names: packing, a name at a place, its place in a table, a name stored.
+// A name packed into four words, and tables of names: packing, a name at a place, its place in a table.
 ghost use mathlib.Core.Path.{_≡_};
 ghost use Prim.Native.Nat.{_+_, _*_, _≤_, _<_};
 ghost use lib.ListN.{length, take, drop};
-ghost use Rattle.tables.specs.Names.{value, packed, sameName, placeOf, rowOf, rows, stored};
+ghost use Rattle.tables.specs.Names.{value, packed, sameName, placeOf, rowOf, rows};
 
 // A name of at most 32 bytes, eight to a word, the first lowest, and zeros past its end.
 pub struct Name {
@@ -121,16 +121,4 @@ pub fn find(table: &[u64], count: usize, name: Name) -> usize
         place += 1;
     }
     place
-}
-
-// Puts a name at a place of a table that has room for 128 names.
-pub fn store(table: &mut [u64; 512], place: usize, name: Name)
-    requires { ⌜ place < 128 ⌝ }
-    ensures { λ r. ⌜ now (table .exit) ≡ stored (now (table .entry)) place name ⌝ }
-{
-    let at = 4 * place;
-    table[at] = name.first;
-    table[at + 1] = name.second;
-    table[at + 2] = name.third;
-    table[at + 3] = name.fourth;
 }

@@ -2,7 +2,6 @@
 use borrow.Author.Needs.{needs}
 use mathlib.Core.Path.{ap}
 use Rattle.lines.specs.declared.Counts.{Counts}
-use Rattle.reading.specs.declared.PolicyRead.{PolicyRead}
 use Rattle.reading.specs.Read.{refusedRead}
 use Rattle.reading.proofs.refused.Statement.{statement}
 use Rattle.reading.proofs.refused.Tie as tie

@@ -2,7 +2,7 @@
 use borrow.Author.Needs.{needs}
 use mathlib.Core.Path.{_≡_, ap, _∙_}
 use Rattle.ledgers.specs.MemoryLaws.{spared-all}
-use Rattle.places.specs.Place.{placeOf, badTypingPlace, typingRefusalOf}
+use Rattle.places.specs.Place.{placeOf, badTypingPlace}
 use Rattle.places.specs.PlaceLaws.{place-ordered, lent-enough}
 use Rattle.telling.specs.Numbers.{placeText, placeValues}
 use Rattle.arbac.specs.FaceLaws.{told-as, no-room-lent, few-lent, told-lent}
