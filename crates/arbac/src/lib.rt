@@ -17,5 +17,6 @@ pub use places::bad_typing_place_in;
 pub use printing::check_line;
 pub use printing::check_line_in;
 pub use printing::program_line;
+pub use printing::program_line_in;
 pub use summing::sum;
 pub use summing::sum_in;

@@ -212,3 +212,25 @@ pub fn program_line(
     }
     check_line(policy, evidence, out)
 }
+
+// The same in lent memory, of which a ledger's words are needed: with fewer, no line is made.
+pub fn program_line_in(
+    policy_read: bool,
+    policy: &[u8],
+    evidence_read: bool,
+    evidence: &[u8],
+    out: &mut [u8],
+    memory: &mut [u64],
+) -> usize
+    ensures { λ r. ⌜ r ≡ inMemory ledgerWords (length (now (memory .entry))) 0 (shownLength (programLine «policy_read» (now (policy .entry)) «evidence_read» (now (evidence .entry))) (now (out .entry))) ⌝ }
+    ensures { λ _. ⌜ now (out .exit) ≡ inMemory ledgerWords (length (now (memory .entry))) (now (out .entry)) (shown (programLine «policy_read» (now (policy .entry)) «evidence_read» (now (evidence .entry))) (now (out .entry))) ⌝ }
+    ensures { λ _. ⌜ Spared ledgerWords (now (memory .entry)) (now (memory .exit)) ⌝ }
+{
+    if memory.len() < WORDS {
+        return 0;
+    }
+    if policy_read & evidence_read {
+        return check_line_in(policy, evidence, out, memory);
+    }
+    program_line(policy_read, policy, evidence_read, evidence, out)
+}
