@@ -26,7 +26,8 @@ use Rattle.merging.specs.declared.MergeAnswer.{MergeAnswer}
 use Rattle.merging.specs.Merge as merge
 use Rattle.answering.specs.declared.Answer.{Answer}
 use Rattle.answering.specs.Answers.{numberOf, answerOf, nameAt}
-use Rattle.printing.specs.Line.{field, partText, lineOf, checkLine}
+use Rattle.showing.specs.Fields.{field}
+use Rattle.printing.specs.Line.{partText, lineOf, checkLine}
 use Rattle.printing.specs.Program.{noFile, programLine}
 use Rattle.telling.specs.Numbers.{placeText}
 use Rattle.arbac.specs.Face.{noRoom, roomFor, toldNumber, toldIn, IsSafe, safe, IsSummed, summed, IsMerged, merged, Answered, lentNumber, AnsweredLent}

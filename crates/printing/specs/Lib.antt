@@ -2,6 +2,5 @@
 pub mod Line
 pub mod LineSteps
 pub mod LineTold
-pub mod Showing
 pub mod Program
 pub mod ProgramExact

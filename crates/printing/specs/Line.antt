@@ -1,20 +1,14 @@
 -- The line that `check` prints for an answer, its fields parted by tabs.
 use Prim.Native.Nat.{ℕ}
-use mathlib.Core.Bool.{cond}
 use mathlib.Core.List.{List, _++_}
-use lib.Dec.{leb}
-use lib.ListN.{length}
 use Rattle.tables.specs.declared.Name.{Name}
 use Rattle.text.specs.Forms.{bytes}
 use Rattle.reading.specs.Policy.{readPolicy}
 use Rattle.judging.specs.declared.Part.{Part}
-use Rattle.writing.specs.Written.{put, spelled, decimal}
+use Rattle.writing.specs.Written.{spelled, decimal}
+use Rattle.showing.specs.Fields.{field}
 use Rattle.answering.specs.declared.Answer.{Answer}
 use Rattle.answering.specs.Answers.{answerOf, usersIn, nameAt}
-
--- a field after its tab
-unfoldable pub field : List ℕ → List ℕ
-field text = bytes "\t" ++ text
 
 unfoldable pub partText : Part → List ℕ
 partText Part.Holdings = bytes "holdings"
@@ -35,10 +29,3 @@ lineOf users (Answer.Refused number line) = bytes "REFUSED" ++ field (decimal nu
 -- The line that `check` prints for two texts.
 unfoldable pub checkLine : (policy evidence : List ℕ) → List ℕ
 checkLine policy evidence = lineOf (usersIn (readPolicy policy)) (answerOf policy evidence)
-
--- A line shown in a lent buffer: its length and the line at the buffer's start, or 0 and the buffer as it was where it is too short.
-unfoldable pub shownLength : (line buffer : List ℕ) → ℕ
-shownLength line buffer = cond (leb (length line) (length buffer)) (length line) 0
-
-unfoldable pub shown : (line buffer : List ℕ) → List ℕ
-shown line buffer = cond (leb (length line) (length buffer)) (put line buffer) buffer

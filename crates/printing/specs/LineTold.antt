@@ -1,17 +1,14 @@
 -- The line of two texts, from their named answer.
 use Prim.Native.Nat.{ℕ}
 use mathlib.Core.List.{List}
-use mathlib.Core.Path.{_≡_, sym, ap, ap₂, _∙_}
-use lib.ListN.{length, take}
+use mathlib.Core.Path.{_≡_, sym, ap, _∙_}
 use Rattle.tables.specs.declared.Name.{Name}
 use Rattle.reading.specs.Policy.{readPolicy}
-use Rattle.writing.specs.Buffers.{put-before}
 use Rattle.answering.specs.declared.Answer.{Answer}
 use Rattle.answering.specs.declared.NamedAnswer.{NamedAnswer}
 use Rattle.answering.specs.Answers.{usersIn}
 use Rattle.answering.specs.Named.{nameIn, namedOver, namedAnswer}
 use Rattle.printing.specs.Line.{lineOf, checkLine}
-use Rattle.printing.specs.LineSteps.{Line}
 
 -- the name is that of the user of whom the answer speaks, over some users
 pub record NamedOver (answer : Answer) (name : Name) : Type 0 where
@@ -30,10 +27,3 @@ module _ (policy evidence : List ℕ) {named : NamedAnswer} (given : named ≡ n
 
   pub named-over : NamedOver (named .answer) (named .name)
   named-over = record { users = usersIn (readPolicy policy); is = name-is }
-
--- a line that is made stands at the start of the buffer that it is made in
-pub taken : {line : List ℕ} {most count : ℕ} {space buffer : List ℕ} → Line line most space count buffer → take count buffer ≡ line
-taken {line} {space = space} wrote = ap₂ take (wrote .wrote .place) (wrote .wrote .held) ∙ put-before line space
-
-pub taken-length : {line : List ℕ} {most count : ℕ} {space buffer : List ℕ} → Line line most space count buffer → count ≡ length (take count buffer)
-taken-length wrote = wrote .wrote .place ∙ sym (ap length (taken wrote))

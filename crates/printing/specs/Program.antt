@@ -3,7 +3,8 @@ use Prim.Native.Nat.{ℕ}
 use mathlib.Core.Bool.{Bool, true, false}
 use mathlib.Core.List.{List, _++_}
 use Rattle.text.specs.Forms.{bytes}
-use Rattle.printing.specs.Line.{field, checkLine}
+use Rattle.showing.specs.Fields.{field}
+use Rattle.printing.specs.Line.{checkLine}
 
 -- NOFILE, then which file can't be read.
 unfoldable pub noFile : (name : List ℕ) → List ℕ

@@ -9,7 +9,8 @@ use native.Mathlib.Omega.{arith}
 use Rattle.tables.specs.declared.Name.{Name}
 use Rattle.text.specs.Forms.{bytes}
 use Rattle.answering.specs.declared.Answer.{Answer}
-use Rattle.printing.specs.Line.{field, lineOf, checkLine}
+use Rattle.showing.specs.Fields.{field}
+use Rattle.printing.specs.Line.{lineOf, checkLine}
 use Rattle.printing.specs.Program.{noFile, programLine}
 
 -- no answer's line begins as NOFILE does

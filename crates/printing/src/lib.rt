@@ -1,18 +1,19 @@
 // The line that `check` prints, made in a lent buffer.
 ghost use mathlib.Core.List.{List, _++_};
 ghost use mathlib.Core.Path.{_≡_};
-ghost use Prim.Native.Nat.{_+_, _≤_};
+ghost use Prim.Native.Nat.{_≤_};
 ghost use lib.ListN.{length, take};
 ghost use Rattle.tables.specs.declared.Name.{Name};
 ghost use Rattle.text.specs.Forms.{bytes};
 ghost use Rattle.ledgers.specs.Ledger.{ledgerWords};
 ghost use Rattle.ledgers.specs.Memory.{inMemory, Spared};
 ghost use Rattle.writing.specs.Written.{spelled, decimal};
-ghost use Rattle.printing.specs.Line.{field, partText, lineOf, checkLine, shownLength, shown};
-ghost use Rattle.printing.specs.LineSteps.{Goes, Line};
+ghost use Rattle.showing.specs.Fields.{field, shownLength, shown};
+ghost use Rattle.showing.specs.Showing.{Shows};
+ghost use Rattle.showing.specs.Steps.{Line};
+ghost use Rattle.printing.specs.Line.{partText, lineOf, checkLine};
 ghost use Rattle.printing.specs.LineTold.{NamedOver};
 ghost use Rattle.printing.specs.Program.{programLine};
-ghost use Rattle.printing.specs.Showing.{Shows};
 ghost use Rattle.answering.specs.declared.Answer.{Answer};
 ghost use Rattle.answering.specs.Named.{nameIn};
 use answering::Answer;
@@ -20,87 +21,36 @@ use answering::named_answer;
 use answering::named_answer_in;
 use judging::Part;
 use ledgers::WORDS;
+use showing::begin_line;
+use showing::end_line;
+use showing::name_field;
+use showing::number_field;
+use showing::number_line;
+use showing::show_line;
 use tables::Name;
-use writing::names::write_name;
-use writing::numbers::write_decimal;
-use writing::pieces::write_bytes;
-
-// Writes a number's field from a place on, and answers the place past it.
-fn number_field(out: &mut [u8], at: usize, number: usize) -> usize
-    requires { ⌜ at + 21 ≤ length (now out) ⌝ }
-    ensures { λ r. ⌜ Goes (field (decimal number)) 21 at (now (out .entry)) r (now (out .exit)) ⌝ }
-{
-    out[at] = b'\t';
-    let from = at + 1;
-    from + write_decimal(&mut out[from..], number as u64)
-}
-
-// Writes a name's field from a place on, and answers the place past it.
-fn name_field(out: &mut [u8], at: usize, name: Name) -> usize
-    requires { ⌜ at + 33 ≤ length (now out) ⌝ }
-    ensures { λ r. ⌜ Goes (field (spelled name)) 33 at (now (out .entry)) r (now (out .exit)) ⌝ }
-{
-    out[at] = b'\t';
-    let from = at + 1;
-    from + write_name(&mut out[from..], name)
-}
-
-// Writes the LF, and answers the line's length.
-fn end_line(out: &mut [u8], at: usize) -> usize
-    requires { ⌜ at + 1 ≤ length (now out) ⌝ }
-    ensures { λ r. ⌜ Goes (bytes "\n") 1 at (now (out .entry)) r (now (out .exit)) ⌝ }
-{
-    out[at] = b'\n';
-    at + 1
-}
-
-// Writes a word and a number's field at the start of a buffer, and answers the place past them.
-fn begin_line(out: &mut [u8], word: &[u8], number: usize) -> usize
-    requires { ⌜ (length (now word) ≤ 20) × (128 ≤ length (now out)) ⌝ }
-    ensures { λ r. ⌜ Line (now (word .entry) ++ field (decimal number)) 41 (now (out .entry)) r (now (out .exit)) ⌝ }
-{
-    let at = write_bytes(out, word);
-    number_field(out, at, number)
-}
-
-// Writes the line of a word and a number.
-fn number_line(out: &mut [u8], word: &[u8], number: usize) -> usize
-    requires { ⌜ (length (now word) ≤ 20) × (128 ≤ length (now out)) ⌝ }
-    ensures { λ r. ⌜ Line (now (word .entry) ++ field (decimal number) ++ bytes "\n") 42 (now (out .entry)) r (now (out .exit)) ⌝ }
-{
-    let at = begin_line(out, word, number);
-    end_line(out, at)
-}
-
-// Writes the line of SAFE.
-fn safe_line(
-    out: &mut [u8],
-    roles: usize,
-    assigns: usize,
-    revokes: usize,
-    goals: usize,
-    pinned: usize,
-) -> usize
-    requires { ⌜ 128 ≤ length (now out) ⌝ }
-    ensures { λ r. ⌜ ((users : List Name) → Line (lineOf users (Answer.Safe roles assigns revokes goals pinned)) 126 (now (out .entry)) r (now (out .exit))) ⌝ }
-{
-    let second = begin_line(out, b"SAFE", roles);
-    let third = number_field(out, second, assigns);
-    let fourth = number_field(out, third, revokes);
-    let fifth = number_field(out, fourth, goals);
-    let last = number_field(out, fifth, pinned);
-    end_line(out, last)
-}
 
 // Writes the line of ATTACKED.
 fn attacked_line(out: &mut [u8], steps: usize, name: Name, goal: usize) -> usize
     requires { ⌜ 128 ≤ length (now out) ⌝ }
     ensures { λ r. ⌜ Line (bytes "ATTACKED" ++ field (decimal steps) ++ field (spelled name) ++ field (decimal goal) ++ bytes "\n") 96 (now (out .entry)) r (now (out .exit)) ⌝ }
 {
-    let second = begin_line(out, b"ATTACKED", steps);
+    let second = begin_line(out, b"ATTACKED", &[steps as u64]);
     let third = name_field(out, second, name);
-    let last = number_field(out, third, goal);
+    let last = number_field(out, third, goal as u64);
     end_line(out, last)
+}
+
+// Begins the line of UNPROVED: the part and the number of the first failure.
+pub fn begin_unproved(out: &mut [u8], part: Part, number: usize) -> usize
+    requires { ⌜ 41 ≤ length (now out) ⌝ }
+    ensures { λ r. ⌜ Line (bytes "UNPROVED" ++ field (partText part) ++ field (decimal number)) 41 (now (out .entry)) r (now (out .exit)) ⌝ }
+{
+    match part {
+        Part::Holdings => begin_line(out, b"UNPROVED\tholdings", &[number as u64]),
+        Part::Assign => begin_line(out, b"UNPROVED\tassign", &[number as u64]),
+        Part::Revoke => begin_line(out, b"UNPROVED\trevoke", &[number as u64]),
+        Part::Goal => begin_line(out, b"UNPROVED\tgoal", &[number as u64]),
+    }
 }
 
 // Writes the line of UNPROVED.
@@ -108,22 +58,8 @@ fn unproved_line(out: &mut [u8], part: Part, number: usize) -> usize
     requires { ⌜ 128 ≤ length (now out) ⌝ }
     ensures { λ r. ⌜ Line (bytes "UNPROVED" ++ field (partText part) ++ field (decimal number) ++ bytes "\n") 42 (now (out .entry)) r (now (out .exit)) ⌝ }
 {
-    match part {
-        Part::Holdings => number_line(out, b"UNPROVED\tholdings", number),
-        Part::Assign => number_line(out, b"UNPROVED\tassign", number),
-        Part::Revoke => number_line(out, b"UNPROVED\trevoke", number),
-        Part::Goal => number_line(out, b"UNPROVED\tgoal", number),
-    }
-}
-
-// Writes the line of REFUSED.
-fn refused_line(out: &mut [u8], number: usize, line: usize) -> usize
-    requires { ⌜ 128 ≤ length (now out) ⌝ }
-    ensures { λ r. ⌜ Line (bytes "REFUSED" ++ field (decimal number) ++ field (decimal line) ++ bytes "\n") 63 (now (out .entry)) r (now (out .exit)) ⌝ }
-{
-    let second = begin_line(out, b"REFUSED", number);
-    let last = number_field(out, second, line);
-    end_line(out, last)
+    let at = begin_unproved(out, part, number);
+    end_line(out, at)
 }
 
 // Writes the line of an answer with the name of the user of whom it speaks.
@@ -132,25 +68,23 @@ fn write_line(out: &mut [u8], answer: Answer, name: Name) -> usize
     ensures { λ r. ⌜ ((users : List Name) → name ≡ nameIn users answer → Line (lineOf users answer) 128 (now (out .entry)) r (now (out .exit))) ⌝ }
 {
     match answer {
-        Answer::Safe(roles, assigns, revokes, goals, pinned) => {
-            safe_line(out, roles, assigns, revokes, goals, pinned)
-        }
+        Answer::Safe(roles, assigns, revokes, goals, pinned) => number_line(
+            out,
+            b"SAFE",
+            &[
+                roles as u64,
+                assigns as u64,
+                revokes as u64,
+                goals as u64,
+                pinned as u64,
+            ],
+        ),
         Answer::Attacked(steps, _, goal) => attacked_line(out, steps, name, goal),
         Answer::Unproved(part, number) => unproved_line(out, part, number),
-        Answer::Broken(step) => number_line(out, b"BROKEN", step),
-        Answer::Short(steps) => number_line(out, b"SHORT", steps),
-        Answer::Refused(number, line) => refused_line(out, number as usize, line),
+        Answer::Broken(step) => number_line(out, b"BROKEN", &[step as u64]),
+        Answer::Short(steps) => number_line(out, b"SHORT", &[steps as u64]),
+        Answer::Refused(number, line) => number_line(out, b"REFUSED", &[number, line as u64]),
     }
-}
-
-// Puts a line at the start of the buffer, and answers its length; 0 where the buffer is too short.
-fn show_line(line: &[u8], out: &mut [u8]) -> usize
-    ensures { λ r. ⌜ Shows (now (line .entry)) (now (out .entry)) r (now (out .exit)) ⌝ }
-{
-    if out.len() < line.len() {
-        return 0;
-    }
-    write_bytes(out, line)
 }
 
 // Makes the line of an answer with the name of the user of whom it speaks, at the start of the buffer, and answers its length; 0

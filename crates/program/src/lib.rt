@@ -1,7 +1,7 @@
 // The program `check` over two named files: both are read before either is judged, and their line is made.
 ghost use Rattle.io.specs.Counts.{Counts};
-use arbac::program_line;
 use files::load;
+use printing::program_line;
 
 // Puts the line of the policy file and the evidence file of these names into a buffer, and answers its length. One byte more than
 // a text may have is enough to refuse it.

@@ -1,11 +1,11 @@
--- `main` comes nearer to its last argument with each pair of files.
+-- `main` comes nearer to its last argument with each case.
 use borrow.Author.Needs.{needs}
 use Prim.Native.Nat.{_-_, _≤_}
 use Rattle.folders.proofs.main.Statement.{statement}
 use Rattle.folders.proofs.main.Tie as tie
 
 abbrev Inv-loop : tie.InvT-loop
-Inv-loop count argument₀ argument = 2 ≤ argument
+Inv-loop count argument₀ argument = 5 ≤ argument
 
 abbrev μ-loop : tie.MeasureT-loop
 μ-loop count argument₀ argument = count - argument
@@ -15,9 +15,6 @@ arg-count-requires c κs = search needs
 
 loop-holds : tie.Need-loop-holds Inv-loop μ-loop
 loop-holds c = search needs
-
-sub-run : tie.Need-sub-run Inv-loop μ-loop
-sub-run c = search needs
 
 run-requires : tie.Need-run-requires Inv-loop μ-loop
 run-requires c κs = search needs
@@ -48,7 +45,6 @@ main-spec =
     μ-loop
     arg-count-requires
     loop-holds
-    sub-run
     run-requires
     sub-if1
     returns

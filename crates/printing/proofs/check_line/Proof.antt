@@ -1,7 +1,7 @@
 -- `check_line` shows the line of the named answer to the two texts.
 use borrow.Author.Needs.{needs}
 use Rattle.printing.specs.LineTold.{name-is, line-told, named-over}
-use Rattle.printing.specs.Showing.{shows-as}
+use Rattle.showing.specs.Showing.{shows-as}
 use Rattle.printing.proofs.check_line.Statement.{statement}
 use Rattle.printing.proofs.check_line.Tie as tie
 

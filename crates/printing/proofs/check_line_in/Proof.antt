@@ -4,7 +4,7 @@ use mathlib.Core.Path.{_≡_, sym, _∙_}
 use Rattle.ledgers.specs.MemoryLaws.{memory-short, memory-enough, spared-all}
 use Rattle.answering.specs.Named.{namedAnswer}
 use Rattle.printing.specs.LineTold.{name-is, line-told, named-over}
-use Rattle.printing.specs.Showing.{shows-as}
+use Rattle.showing.specs.Showing.{shows-as}
 use Rattle.printing.proofs.check_line_in.Statement.{statement}
 use Rattle.printing.proofs.check_line_in.Tie as tie
 

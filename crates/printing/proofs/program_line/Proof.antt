@@ -1,6 +1,6 @@
 -- `program_line` shows the line of NOFILE where a file can't be read, and else the line of the two texts.
-use Rattle.printing.specs.Showing.{shows-as}
-use Rattle.printing.specs.Line.{field}
+use Rattle.showing.specs.Showing.{shows-as}
+use Rattle.showing.specs.Fields.{field}
 use Rattle.printing.specs.Program.{noFile}
 use Rattle.printing.specs.ProgramExact.{no-policy, no-evidence, both-read}
 use borrow.Author.Needs.{needs}

@@ -3,9 +3,8 @@ use borrow.Author.Needs.{needs}
 use lib.ListN.{replicate}
 use native.Mathlib.Omega.{arith}
 use Rattle.printing.specs.Line.{lineOf}
-use Rattle.printing.specs.LineSteps.{Line}
-use Rattle.printing.specs.LineTold.{taken, taken-length}
-use Rattle.printing.specs.Showing.{shows-as}
+use Rattle.showing.specs.Steps.{Line, taken, taken-length}
+use Rattle.showing.specs.Showing.{shows-as}
 use Rattle.printing.proofs.show_answer.Statement.{statement}
 use Rattle.printing.proofs.show_answer.Tie as tie
 

@@ -1,0 +1,90 @@
+-- What the commands `sum` and `merge` make: the text, and the line of the answer, its fields parted by tabs.
+use Prim.Native.Nat.{ℕ}
+use mathlib.Core.Bool.{Bool, true, false, cond}
+use mathlib.Core.List.{List, [], _++_}
+use mathlib.Core.Path.{_≡_}
+use lib.Dec.{eqb}
+use lib.ListN.{length}
+use Rattle.text.specs.Forms.{bytes}
+use Rattle.writing.specs.Written.{decimal}
+use Rattle.showing.specs.Fields.{field, shownLength, shown}
+use Rattle.summing.specs.declared.SumAnswer.{SumAnswer}
+use Rattle.summing.specs.Outcome.{Outcome, leaves, writes, answerIn, bufferAfter}
+use Rattle.summing.specs.Sum.{sumOutcome}
+use Rattle.merging.specs.declared.MergeAnswer.{MergeAnswer}
+use Rattle.merging.specs.Merge.{mergeOutcome}
+use Rattle.printing.specs.Line.{partText}
+use Rattle.reporting.specs.declared.Subject.{Subject}
+
+-- ---- what a line speaks of
+
+-- One of four words as a field, by its number from 1; no field for another number.
+unfoldable pub nthField : ℕ → (one two three four : List ℕ) → List ℕ
+nthField which one two three four =
+    cond (eqb which 1) (field one) (cond (eqb which 2) (field two) (cond (eqb which 3) (field three) (cond (eqb which 4) (field four) [])))
+
+-- The texts in the order in which they are read, and the four judgings: a typing, and the policy or the rules that it is judged on.
+unfoldable pub subjectField : Subject → (which : ℕ) → List ℕ
+subjectField Subject.SumText which = nthField which (bytes "policy") (bytes "typing_1") (bytes "typing_2") []
+subjectField Subject.MergeText which = nthField which (bytes "policy_1") (bytes "typing_1") (bytes "policy_2") (bytes "typing_2")
+subjectField Subject.Judging which =
+    nthField which (bytes "typing_1" ++ field (bytes "policy_1")) (bytes "typing_2" ++ field (bytes "policy_2")) (bytes "typing_1" ++ field (bytes "rules_2")) (bytes "typing_2" ++ field (bytes "rules_1"))
+
+-- ---- the line of an answer, with its LF
+
+unfoldable pub sumLine : SumAnswer → List ℕ
+sumLine (SumAnswer.Summed pinned written) = bytes "SUMMED" ++ field (decimal pinned) ++ field (decimal written) ++ bytes "\n"
+sumLine (SumAnswer.Refused which number line) = bytes "REFUSED" ++ field (decimal number) ++ field (decimal line) ++ subjectField Subject.SumText which ++ bytes "\n"
+
+unfoldable pub mergeLine : MergeAnswer → List ℕ
+mergeLine (MergeAnswer.Merged roles assigns revokes goals pinned written) =
+    bytes "MERGED" ++ field (decimal roles) ++ field (decimal assigns) ++ field (decimal revokes) ++ field (decimal goals) ++ field (decimal pinned) ++ field (decimal written) ++ bytes "\n"
+mergeLine (MergeAnswer.Unproved which part number) = bytes "UNPROVED" ++ field (partText part) ++ field (decimal number) ++ subjectField Subject.Judging which ++ bytes "\n"
+mergeLine (MergeAnswer.Refused which number line) = bytes "REFUSED" ++ field (decimal number) ++ field (decimal line) ++ subjectField Subject.MergeText which ++ bytes "\n"
+
+-- ---- files
+
+-- Which of four files is the first that can't be read, from 1; 0 where all of them can.
+unfoldable pub firstMissing : (one two three four : Bool) → ℕ
+firstMissing false two three four = 1
+firstMissing true false three four = 2
+firstMissing true true false four = 3
+firstMissing true true true false = 4
+firstMissing true true true true = 0
+
+-- NOFILE, then which file can't be read.
+unfoldable pub missingLine : Subject → (which : ℕ) → List ℕ
+missingLine subject which = bytes "NOFILE" ++ subjectField subject which ++ bytes "\n"
+
+-- An outcome with the line of its answer in the answer's place.
+unfoldable pub inWords : {A : Type 0} → (A → List ℕ) → Outcome A → Outcome (List ℕ)
+inWords line (leaves answer) = leaves (line answer)
+inWords line (writes answer text) = writes (line answer) text
+
+-- NOFILE where a file is missing, else the answer to the texts and what it writes into a buffer with so much room.
+unfoldable pub sumReport : (missing : ℕ) (policy first second : List ℕ) → ℕ → Outcome (List ℕ)
+sumReport missing policy first second room = cond (eqb missing 0) (inWords sumLine (sumOutcome policy first second room)) (leaves (missingLine Subject.SumText missing))
+
+unfoldable pub mergeReport : (missing : ℕ) (policy₁ typing₁ policy₂ typing₂ : List ℕ) → ℕ → Outcome (List ℕ)
+mergeReport missing policy₁ typing₁ policy₂ typing₂ room =
+    cond (eqb missing 0) (inWords mergeLine (mergeOutcome policy₁ typing₁ policy₂ typing₂ room)) (leaves (missingLine Subject.MergeText missing))
+
+-- ---- what is made of an outcome
+
+-- The text that it writes.
+unfoldable pub textIn : {A : Type 0} → Outcome A → List ℕ
+textIn (leaves answer) = []
+textIn (writes answer text) = text
+
+-- Whether it writes one.
+unfoldable pub isWritten : {A : Type 0} → Outcome A → Bool
+isWritten (leaves answer) = false
+isWritten (writes answer text) = true
+
+-- The lengths that are answered, and the two buffers before and after, are what the outcome says: the text stands in one, the line is
+-- shown in the other.
+pub record Reports (outcome : Outcome (List ℕ)) (out line : List ℕ) (texts lines : ℕ) (out′ line′ : List ℕ) : Type 0 where
+  pub text-made : texts ≡ length (textIn outcome)
+  pub text-left : out′ ≡ bufferAfter outcome out
+  pub line-made : lines ≡ shownLength (answerIn outcome) line
+  pub line-left : line′ ≡ shown (answerIn outcome) line
