@@ -27,7 +27,8 @@ use Rattle.merging.specs.Merge as merge
 use Rattle.answering.specs.declared.Answer.{Answer}
 use Rattle.answering.specs.Answers.{numberOf, answerOf, nameAt}
 use Rattle.showing.specs.Fields.{field}
-use Rattle.printing.specs.Line.{partText, lineOf, checkLine}
+use Rattle.printing.specs.Line.{lineOf, checkLine}
+use Rattle.printing.specs.LineSteps.{part-length}
 use Rattle.printing.specs.Program.{noFile, programLine}
 use Rattle.telling.specs.Numbers.{placeText}
 use Rattle.arbac.specs.Face.{noRoom, roomFor, toldNumber, toldIn, IsSafe, safe, IsSummed, summed, IsMerged, merged, Answered, lentNumber, AnsweredLent}
@@ -169,14 +170,6 @@ unfolding badTypingLine
 bad-typing-bytes policy typing = place-bytes policy typing (badTypingPlace policy typing)
 
 -- ---- the line
-
--- a part's word is short
-part-length : (part : Part) → length (partText part) ≤ 8
-unfolding partText
-part-length Part.Holdings = lit≤ tt
-part-length Part.Assign = lit≤ tt
-part-length Part.Revoke = lit≤ tt
-part-length Part.Goal = lit≤ tt
 
 -- Every line of `check` fits into 128 bytes.
 line-length : (users : List Name) (answer : Answer) → length (lineOf users answer) ≤ 128

@@ -2,6 +2,8 @@
 use Prim.Native.Nat.{ℕ, _≤_}
 use mathlib.Core.List.{List, _++_}
 use mathlib.Core.Path.{_≡_, sym, ap, subst, _∙_}
+use lib.Dec.{lit≤}
+use lib.ListN.{length}
 use native.Mathlib.Omega.{arith}
 use Rattle.tables.specs.declared.Name.{Name}
 use Rattle.text.specs.Forms.{bytes}
@@ -30,3 +32,11 @@ pub attacked-name : (users : List Name) {answer : Answer} {steps user goal : ℕ
 unfolding lineOf nameIn
 attacked-name users {steps = steps} {goal = goal} {most = most} {next} {buffer} {out} is named line =
     subst (λ (n : Name). Line (bytes "ATTACKED" ++ field (decimal steps) ++ field (spelled n) ++ field (decimal goal) ++ bytes "\n") most buffer next out) (named ∙ ap (nameIn users) is) line
+
+-- a part's word is short
+pub part-length : (part : Part) → length (partText part) ≤ 8
+unfolding partText
+part-length Part.Holdings = lit≤ tt
+part-length Part.Assign = lit≤ tt
+part-length Part.Revoke = lit≤ tt
+part-length Part.Goal = lit≤ tt

@@ -1,20 +1,24 @@
 -- When a sum or a merge is reported as a success, and when as a missing file. The words that a line begins with differ in their first
 -- letters: S of SUMMED, M of MERGED, U of UNPROVED, R of REFUSED, N of NOFILE.
-use Prim.Native.Nat.{ℕ}
-use mathlib.Core.Bool.{Bool, true, false, true≢false, false≢true}
-use mathlib.Core.List.{List}
+use Prim.Native.Nat.{ℕ, _+_, _≤_}
+use mathlib.Core.Bool.{Bool, true, false, cond, true≢false, false≢true}
+use mathlib.Core.List.{List, [], _∷_}
 use mathlib.Core.Logic.{_↔_}
 use mathlib.Core.Path.{_≡_, refl, sym, ap, _∙_}
 use borrow.Author.Tests.{eqb-true, eqb-false}
-use lib.Dec.{eqb}
-use lib.ListN.{getD}
+use lib.Dec.{eqb, lit≤}
+use lib.ListN.{length, getD, length-append}
 use native.Mathlib.Omega.{arith}
+use Rattle.writing.specs.Spelling.{decimal-length}
+use Rattle.showing.specs.Fields.{field}
 use Rattle.summing.specs.declared.SumAnswer.{SumAnswer}
-use Rattle.summing.specs.Outcome.{Outcome, leaves, answerIn}
+use Rattle.summing.specs.Outcome.{Outcome, leaves, writes, answerIn}
 use Rattle.summing.specs.Sum.{sumOutcome}
 use Rattle.merging.specs.declared.MergeAnswer.{MergeAnswer}
 use Rattle.merging.specs.Merge.{mergeOutcome}
-use Rattle.reporting.specs.Report.{sumLine, mergeLine, firstMissing, missingLine, inWords, sumReport, mergeReport, isWritten}
+use Rattle.printing.specs.LineSteps.{part-length}
+use Rattle.reporting.specs.declared.Subject.{Subject}
+use Rattle.reporting.specs.Report.{nthField, subjectField, sumLine, mergeLine, firstMissing, missingLine, inWords, sumReport, mergeReport, isWritten}
 use Rattle.reporting.specs.ReportLaws.{Kind, left, made}
 use Rattle.reporting.specs.ReportKinds.{isSummed, sumTold, sum-kind, sum-missing, sum-there, isMerged, mergeTold, merge-kind, merge-missing, merge-there}
 
@@ -105,3 +109,61 @@ module _ (missing : ℕ) (policy₁ typing₁ policy₂ typing₂ : List ℕ) (r
   pub merge-nofile : getD (answerIn (mergeReport missing policy₁ typing₁ policy₂ typing₂ room)) 0 0 ≡ 78 ↔ (missing ≡ 0 → ⊥)
   unfolding missingLine
   merge-nofile = nofile (merge-tells (merge-kind policy₁ typing₁ policy₂ typing₂ room)) (λ is. omega (arith, is)) refl (merge-there policy₁ typing₁ policy₂ typing₂ room) (merge-missing policy₁ typing₁ policy₂ typing₂ room)
+
+-- ---- how long a line is
+
+-- what a line speaks of is short
+nth-length : (which most : ℕ) (one two three four : List ℕ) → length one ≤ most → length two ≤ most → length three ≤ most → length four ≤ most → length (nthField which one two three four) ≤ most + 1
+unfolding nthField field
+nth-length which most one two three four first second third fourth = go (eqb which 1) (eqb which 2) (eqb which 3) (eqb which 4)
+  where
+    go : (is-1 is-2 is-3 is-4 : Bool) → length (cond is-1 (9 ∷ one) (cond is-2 (9 ∷ two) (cond is-3 (9 ∷ three) (cond is-4 (9 ∷ four) [])))) ≤ most + 1
+    go true is-2 is-3 is-4 = omega (arith, first)
+    go false true is-3 is-4 = omega (arith, second)
+    go false false true is-4 = omega (arith, third)
+    go false false false true = omega (arith, fourth)
+    go false false false false = omega arith
+
+subject-length : (subject : Subject) (which : ℕ) → length (subjectField subject which) ≤ 18
+unfolding subjectField field
+subject-length Subject.SumText which = nth-length which 17 _ _ _ _ (lit≤ tt) (lit≤ tt) (lit≤ tt) (lit≤ tt)
+subject-length Subject.MergeText which = nth-length which 17 _ _ _ _ (lit≤ tt) (lit≤ tt) (lit≤ tt) (lit≤ tt)
+subject-length Subject.Judging which = nth-length which 17 _ _ _ _ (lit≤ tt) (lit≤ tt) (lit≤ tt) (lit≤ tt)
+
+missing-length : (subject : Subject) (which : ℕ) → length (missingLine subject which) ≤ 192
+unfolding missingLine
+missing-length subject which = simp length-append (omega (arith, subject-length subject which))
+
+sum-length : (answer : SumAnswer) → length (sumLine answer) ≤ 192
+unfolding sumLine field
+sum-length (SumAnswer.Summed pinned written) = simp length-append (omega (arith, decimal-length pinned, decimal-length written))
+sum-length (SumAnswer.Refused which number line) = simp length-append (omega (arith, decimal-length number, decimal-length line, subject-length Subject.SumText which))
+
+merge-length : (answer : MergeAnswer) → length (mergeLine answer) ≤ 192
+unfolding mergeLine field
+merge-length (MergeAnswer.Merged roles assigns revokes goals pinned written) =
+    simp length-append (omega (arith, decimal-length roles, decimal-length assigns, decimal-length revokes, decimal-length goals, decimal-length pinned, decimal-length written))
+merge-length (MergeAnswer.Unproved which part number) = simp length-append (omega (arith, part-length part, decimal-length number, subject-length Subject.Judging which))
+merge-length (MergeAnswer.Refused which number line) = simp length-append (omega (arith, decimal-length number, decimal-length line, subject-length Subject.MergeText which))
+
+words-length : {A : Type 0} (words : A → List ℕ) → ((answer : A) → length (words answer) ≤ 192) → (outcome : Outcome A) → length (answerIn (inWords words outcome)) ≤ 192
+unfolding inWords answerIn
+words-length words few (leaves answer) = few answer
+words-length words few (writes answer text) = few answer
+
+-- Every line of `sum` and `merge` fits into 192 bytes.
+pub sum-longest : (missing : ℕ) (policy first second : List ℕ) (room : ℕ) → length (answerIn (sumReport missing policy first second room)) ≤ 192
+unfolding sumReport answerIn
+sum-longest missing policy first second room = go (eqb missing 0)
+  where
+    go : (there : Bool) → length (answerIn (cond there (inWords sumLine (sumOutcome policy first second room)) (leaves (missingLine Subject.SumText missing)))) ≤ 192
+    go true = words-length sumLine sum-length (sumOutcome policy first second room)
+    go false = missing-length Subject.SumText missing
+
+pub merge-longest : (missing : ℕ) (policy₁ typing₁ policy₂ typing₂ : List ℕ) (room : ℕ) → length (answerIn (mergeReport missing policy₁ typing₁ policy₂ typing₂ room)) ≤ 192
+unfolding mergeReport answerIn
+merge-longest missing policy₁ typing₁ policy₂ typing₂ room = go (eqb missing 0)
+  where
+    go : (there : Bool) → length (answerIn (cond there (inWords mergeLine (mergeOutcome policy₁ typing₁ policy₂ typing₂ room)) (leaves (missingLine Subject.MergeText missing)))) ≤ 192
+    go true = words-length mergeLine merge-length (mergeOutcome policy₁ typing₁ policy₂ typing₂ room)
+    go false = missing-length Subject.MergeText missing
