@@ -37,7 +37,7 @@ take() {
             exit 64
             ;;
         --) shift ;;
-        -?*) fail 64 "there is no option $1; try $own --help" ;;
+        -?*) fail 64 "there is no option ${1@Q}; try $own --help" ;;
     esac
     if [ $# -lt "$least" ] || [ $# -gt "$most" ]; then
         fail 64 "$(printf '%s\n' "$help" | head -n 1); try $own --help"
@@ -54,7 +54,7 @@ enter() {
         *) path="./$path" ;;
     esac
     if [ -z "$1" ] || ! folder="$(cd -- "$path" 2>/dev/null && pwd -P && echo .)"; then
-        fail 66 "there is no folder '$1' that can be read"
+        fail 66 "there is no folder ${1@Q} that can be read"
     fi
     # the full stop keeps an LF at the end of a folder's name
     folder="${folder%??}"
