@@ -114,7 +114,10 @@ make() {
         fail 70 "can't write in $root/target"
     fi
     # one build at a time: another launcher's may have made the file meanwhile
-    command -v flock >/dev/null && flock "$lock"
+    if command -v flock >/dev/null && ! flock -n "$lock"; then
+        say 'waiting for another build'
+        flock "$lock"
+    fi
     if stale "$file"; then
         say "building $crate: each crate that it needs is proved on this machine first, which takes minutes the first time"
         SECONDS=0

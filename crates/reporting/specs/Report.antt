@@ -14,21 +14,8 @@ use Rattle.summing.specs.Sum.{sumOutcome}
 use Rattle.merging.specs.declared.MergeAnswer.{MergeAnswer}
 use Rattle.merging.specs.Merge.{mergeOutcome}
 use Rattle.printing.specs.Line.{partText}
-use Rattle.reporting.specs.declared.Subject.{Subject}
-
--- ---- what a line speaks of
-
--- One of four words as a field, by its number from 1; no field for another number.
-unfoldable pub nthField : ℕ → (one two three four : List ℕ) → List ℕ
-nthField which one two three four =
-    cond (eqb which 1) (field one) (cond (eqb which 2) (field two) (cond (eqb which 3) (field three) (cond (eqb which 4) (field four) [])))
-
--- The texts in the order in which they are read, and the four judgings: a typing, and the policy or the rules that it is judged on.
-unfoldable pub subjectField : Subject → (which : ℕ) → List ℕ
-subjectField Subject.SumText which = nthField which (bytes "policy") (bytes "typing_1") (bytes "typing_2") []
-subjectField Subject.MergeText which = nthField which (bytes "policy_1") (bytes "typing_1") (bytes "policy_2") (bytes "typing_2")
-subjectField Subject.Judging which =
-    nthField which (bytes "typing_1" ++ field (bytes "policy_1")) (bytes "typing_2" ++ field (bytes "policy_2")) (bytes "typing_1" ++ field (bytes "rules_2")) (bytes "typing_2" ++ field (bytes "rules_1"))
+use Rattle.wording.specs.declared.Subject.{Subject}
+use Rattle.wording.specs.Subjects.{subjectField}
 
 -- ---- the line of an answer, with its LF
 

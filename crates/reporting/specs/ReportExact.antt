@@ -1,12 +1,12 @@
 -- When a sum or a merge is reported as a success, and when as a missing file. The words that a line begins with differ in their first
 -- letters: S of SUMMED, M of MERGED, U of UNPROVED, R of REFUSED, N of NOFILE.
-use Prim.Native.Nat.{ℕ, _+_, _≤_}
+use Prim.Native.Nat.{ℕ, _≤_}
 use mathlib.Core.Bool.{Bool, true, false, cond, true≢false, false≢true}
-use mathlib.Core.List.{List, [], _∷_}
+use mathlib.Core.List.{List}
 use mathlib.Core.Logic.{_↔_}
 use mathlib.Core.Path.{_≡_, refl, sym, ap, _∙_}
 use borrow.Author.Tests.{eqb-true, eqb-false}
-use lib.Dec.{eqb, lit≤}
+use lib.Dec.{eqb}
 use lib.ListN.{length, getD, length-append}
 use native.Mathlib.Omega.{arith}
 use Rattle.writing.specs.Spelling.{decimal-length}
@@ -17,8 +17,9 @@ use Rattle.summing.specs.Sum.{sumOutcome}
 use Rattle.merging.specs.declared.MergeAnswer.{MergeAnswer}
 use Rattle.merging.specs.Merge.{mergeOutcome}
 use Rattle.printing.specs.LineSteps.{part-length}
-use Rattle.reporting.specs.declared.Subject.{Subject}
-use Rattle.reporting.specs.Report.{nthField, subjectField, sumLine, mergeLine, firstMissing, missingLine, inWords, sumReport, mergeReport, isWritten}
+use Rattle.wording.specs.declared.Subject.{Subject}
+use Rattle.wording.specs.SubjectLaws.{subject-length}
+use Rattle.reporting.specs.Report.{sumLine, mergeLine, firstMissing, missingLine, inWords, sumReport, mergeReport, isWritten}
 use Rattle.reporting.specs.ReportLaws.{Kind, left, made}
 use Rattle.reporting.specs.ReportKinds.{isSummed, sumTold, sum-kind, sum-missing, sum-there, isMerged, mergeTold, merge-kind, merge-missing, merge-there}
 
@@ -111,24 +112,6 @@ module _ (missing : ℕ) (policy₁ typing₁ policy₂ typing₂ : List ℕ) (r
   merge-nofile = nofile (merge-tells (merge-kind policy₁ typing₁ policy₂ typing₂ room)) (λ is. omega (arith, is)) refl (merge-there policy₁ typing₁ policy₂ typing₂ room) (merge-missing policy₁ typing₁ policy₂ typing₂ room)
 
 -- ---- how long a line is
-
--- what a line speaks of is short
-nth-length : (which most : ℕ) (one two three four : List ℕ) → length one ≤ most → length two ≤ most → length three ≤ most → length four ≤ most → length (nthField which one two three four) ≤ most + 1
-unfolding nthField field
-nth-length which most one two three four first second third fourth = go (eqb which 1) (eqb which 2) (eqb which 3) (eqb which 4)
-  where
-    go : (is-1 is-2 is-3 is-4 : Bool) → length (cond is-1 (9 ∷ one) (cond is-2 (9 ∷ two) (cond is-3 (9 ∷ three) (cond is-4 (9 ∷ four) [])))) ≤ most + 1
-    go true is-2 is-3 is-4 = omega (arith, first)
-    go false true is-3 is-4 = omega (arith, second)
-    go false false true is-4 = omega (arith, third)
-    go false false false true = omega (arith, fourth)
-    go false false false false = omega arith
-
-subject-length : (subject : Subject) (which : ℕ) → length (subjectField subject which) ≤ 18
-unfolding subjectField field
-subject-length Subject.SumText which = nth-length which 17 _ _ _ _ (lit≤ tt) (lit≤ tt) (lit≤ tt) (lit≤ tt)
-subject-length Subject.MergeText which = nth-length which 17 _ _ _ _ (lit≤ tt) (lit≤ tt) (lit≤ tt) (lit≤ tt)
-subject-length Subject.Judging which = nth-length which 17 _ _ _ _ (lit≤ tt) (lit≤ tt) (lit≤ tt) (lit≤ tt)
 
 missing-length : (subject : Subject) (which : ℕ) → length (missingLine subject which) ≤ 192
 unfolding missingLine

@@ -19,9 +19,11 @@ use Rattle.summing.specs.Sums.{sumOf}
 use Rattle.merging.specs.declared.MergeAnswer.{MergeAnswer}
 use Rattle.merging.specs.Directory.{sameDirectory}
 use Rattle.merging.specs.Merge.{whenSame, whenAccepted, countsFit, mergeWritten, mergeCounted, mergeJudged, mergeOutcome}
-use Rattle.reporting.specs.declared.Subject.{Subject}
-use Rattle.reporting.specs.Report.{subjectField, sumLine, mergeLine, missingLine, inWords, sumReport, mergeReport}
-use Rattle.reporting.specs.ReportLaws.{of-nothing, Kind, left, kind-read, kind-one, kind-fits}
+use Rattle.wording.specs.declared.Subject.{Subject}
+use Rattle.wording.specs.Subjects.{subjectField}
+use Rattle.wording.specs.SubjectLaws.{of-nothing}
+use Rattle.reporting.specs.Report.{sumLine, mergeLine, missingLine, inWords, sumReport, mergeReport}
+use Rattle.reporting.specs.ReportLaws.{Kind, left, kind-read, kind-one, kind-fits}
 
 -- ---- a sum
 

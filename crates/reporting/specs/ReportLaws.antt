@@ -1,46 +1,20 @@
--- How the line of a report comes to be, and that a text is made exactly where the answer is a success.
+-- How a report comes to be, and that a text is made exactly where the answer is a success.
 use Prim.Native.Nat.{ℕ, _≤_, zero-le}
 use mathlib.Core.Bool.{Bool, true, false, cond, true≢false, _&&_}
-use mathlib.Core.List.{List, [], _++_, append-nil}
+use mathlib.Core.List.{List}
 use mathlib.Core.Path.{_≡_, refl, sym, ap, subst, _∙_}
-use borrow.Author.Tests.{ne-eqb, leb-true}
+use borrow.Author.Tests.{leb-true}
 use lib.Dec.{leb}
 use lib.ListN.{length}
 use lib.Seq.{length-take-le}
 use native.Mathlib.Omega.{arith}
 use Rattle.io.specs.Counts.{Counts}
-use Rattle.text.specs.Forms.{bytes}
 use Rattle.walking.specs.Texts.{Reading, read, refused}
 use Rattle.writing.specs.Written.{put}
 use Rattle.writing.specs.Buffers.{put-length}
 use Rattle.showing.specs.Showing.{Shows}
-use Rattle.showing.specs.Steps.{Goes, goes-none}
 use Rattle.summing.specs.Outcome.{Outcome, leaves, writes, answerIn, bufferAfter, whenRead, fits, Meets}
-use Rattle.reporting.specs.declared.Subject.{Subject}
-use Rattle.reporting.specs.Report.{nthField, subjectField, inWords, textIn, Reports}
-
--- ---- what a line speaks of
-
-module _ (one two three four : List ℕ) {which most at next : ℕ} {before after : List ℕ} where
-  -- a number that is known
-  pub nth-known : {known : ℕ} → which ≡ known → Goes (nthField known one two three four) most at before next after → Goes (nthField which one two three four) most at before next after
-  nth-known same goes = subst (λ (n : ℕ). Goes (nthField n one two three four) most at before next after) (sym same) goes
-
--- a number of none of them
-pub nth-none : (one two three four : List ℕ) {which most at : ℕ} {out : List ℕ} → (which ≡ 1 → ⊥) → (which ≡ 2 → ⊥) → (which ≡ 3 → ⊥) → (which ≡ 4 → ⊥) → Goes (nthField which one two three four) most at out at out
-unfolding nthField
-nth-none one two three four {which} not-one not-two not-three not-four = rw (ne-eqb which 1 not-one, ne-eqb which 2 not-two, ne-eqb which 3 not-three, ne-eqb which 4 not-four) goes-none
-
--- a subject that is known
-pub subject-known : (which : ℕ) {subject known : Subject} {most at next : ℕ} {before after : List ℕ} → subject ≡ known → Goes (subjectField known which) most at before next after → Goes (subjectField subject which) most at before next after
-subject-known which {most = most} {at} {next} {before} {after} same goes = subst (λ (s : Subject). Goes (subjectField s which) most at before next after) (sym same) goes
-
--- a line that speaks of nothing
-pub of-nothing : (text : List ℕ) (subject : Subject) → text ++ subjectField subject 0 ++ bytes "\n" ≡ text ++ bytes "\n"
-unfolding subjectField nthField
-of-nothing text Subject.SumText = ap (λ (l : List ℕ). l ++ bytes "\n") (append-nil text)
-of-nothing text Subject.MergeText = ap (λ (l : List ℕ). l ++ bytes "\n") (append-nil text)
-of-nothing text Subject.Judging = ap (λ (l : List ℕ). l ++ bytes "\n") (append-nil text)
+use Rattle.reporting.specs.Report.{inWords, textIn, Reports}
 
 -- ---- a text is written exactly where the answer is a success
 

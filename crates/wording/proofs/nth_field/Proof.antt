@@ -1,10 +1,10 @@
 -- `nth_field` asks for one number after another.
 use borrow.Author.Needs.{needs}
 use denote.Ref.{now}
-use Rattle.reporting.specs.Report.{nthField}
-use Rattle.reporting.specs.ReportLaws.{nth-known, nth-none}
-use Rattle.reporting.proofs.nth_field.Statement.{statement}
-use Rattle.reporting.proofs.nth_field.Tie as tie
+use Rattle.wording.specs.Subjects.{nthField}
+use Rattle.wording.specs.SubjectLaws.{nth-known, nth-none}
+use Rattle.wording.proofs.nth_field.Statement.{statement}
+use Rattle.wording.proofs.nth_field.Tie as tie
 
 word-field-requires : tie.Need-word-field-requires
 word-field-requires c κs = search needs

@@ -8,10 +8,10 @@ use Rattle.text.specs.Forms.{bytes}
 use Rattle.showing.specs.Fields.{fieldsOn}
 use Rattle.showing.specs.Steps.{Line, line-both, taken, taken-length}
 use Rattle.showing.specs.Showing.{shows-as}
-use Rattle.reporting.specs.Report.{subjectField}
+use Rattle.wording.specs.Subjects.{subjectField}
 use borrow.Author.Needs.{needs}
-use Rattle.reporting.proofs.show.Statement.{statement}
-use Rattle.reporting.proofs.show.Tie as tie
+use Rattle.wording.proofs.show.Statement.{statement}
+use Rattle.wording.proofs.show.Tie as tie
 
 -- the line is made in the array
 made : (c : tie.After-end-with) → Line (fieldsOn (now (c .before .before .before .before .before .before .before .before .args .word)) (now (c .before .before .before .before .before .before .before .before .args .numbers)) ++ subjectField (c .before .before .before .before .before .before .before .before .args .subject) (c .before .before .before .before .before .before .before .before .args .which) ++ bytes "\n") (20 + 21 * length (now (c .before .before .before .before .before .before .before .before .args .numbers)) + 22) (replicate 192 0) (c .end-with .result) (c .end-with .last .0)

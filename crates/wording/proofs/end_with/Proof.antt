@@ -1,8 +1,8 @@
 -- `end_with` puts the LF past the field.
 use Rattle.showing.specs.Steps.{goes-both}
 use borrow.Author.Needs.{needs}
-use Rattle.reporting.proofs.end_with.Statement.{statement}
-use Rattle.reporting.proofs.end_with.Tie as tie
+use Rattle.wording.proofs.end_with.Statement.{statement}
+use Rattle.wording.proofs.end_with.Tie as tie
 
 subject-field-requires : tie.Need-subject-field-requires
 subject-field-requires c κs = search needs

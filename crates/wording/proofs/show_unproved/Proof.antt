@@ -9,11 +9,11 @@ use Rattle.showing.specs.Fields.{field}
 use Rattle.showing.specs.Steps.{Line, line-both, taken, taken-length}
 use Rattle.showing.specs.Showing.{shows-as}
 use Rattle.printing.specs.Line.{partText}
-use Rattle.reporting.specs.declared.Subject.{Subject}
-use Rattle.reporting.specs.Report.{subjectField}
+use Rattle.wording.specs.declared.Subject.{Subject}
+use Rattle.wording.specs.Subjects.{subjectField}
 use borrow.Author.Needs.{needs}
-use Rattle.reporting.proofs.show_unproved.Statement.{statement}
-use Rattle.reporting.proofs.show_unproved.Tie as tie
+use Rattle.wording.proofs.show_unproved.Statement.{statement}
+use Rattle.wording.proofs.show_unproved.Tie as tie
 
 -- the line is made in the array
 made : (c : tie.After-end-with) → Line (bytes "UNPROVED" ++ field (partText (c .before .before .before .before .before .before .args .part)) ++ field (decimal (c .before .before .before .before .before .before .args .number)) ++ subjectField Subject.Judging (c .before .before .before .before .before .before .args .which) ++ bytes "\n") (63) (replicate 192 0) (c .end-with .result) (c .end-with .last .0)

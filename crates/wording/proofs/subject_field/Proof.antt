@@ -1,10 +1,10 @@
 -- `subject_field` has four words for each subject.
 use Rattle.showing.specs.Fields.{field}
-use Rattle.reporting.specs.Report.{subjectField}
-use Rattle.reporting.specs.ReportLaws.{subject-known}
+use Rattle.wording.specs.Subjects.{subjectField}
+use Rattle.wording.specs.SubjectLaws.{subject-known}
 use borrow.Author.Needs.{needs}
-use Rattle.reporting.proofs.subject_field.Statement.{statement}
-use Rattle.reporting.proofs.subject_field.Tie as tie
+use Rattle.wording.proofs.subject_field.Statement.{statement}
+use Rattle.wording.proofs.subject_field.Tie as tie
 
 enum-told : tie.Need-enum-told
 enum-told c = search needs
