@@ -100,15 +100,16 @@ progress() {
     return 0
 }
 
-# Whether a file that is made from the sources is missing or older than one of them.
+# Whether a FILE that is made from the sources is missing, or its MARK is missing or older than one of them.
 stale() {
-    [ ! -e "$1" ] || [ -n "$(find "$root/crates" "$root/crates.txt" -newer "$1" -name '*t' -print -quit)" ]
+    [ ! -e "$1" ] || [ ! -e "$2" ] || [ -n "$(find "$root/crates" "$root/crates.txt" -newer "$2" -name '*t' -print -quit)" ]
 }
 
-# Makes a FILE from the sources of a CRATE by `rt VERB CRATE`, where it is missing or older than they are.
+# Makes a FILE from the sources of a CRATE by `rt VERB CRATE`, where it is missing or older than they are. A mark beside it is as old as
+# the beginning of the build, and is set only where the build succeeds.
 make() {
-    local verb="$1" crate="$2" file="$3" log="$root/target/$2.build" lock
-    stale "$file" || return 0
+    local verb="$1" crate="$2" file="$3" mark="$root/target/$2.$1" lock
+    if ! stale "$file" "$mark"; then return; fi
     command -v rt >/dev/null || fail 70 "$crate is not built, and there is no rt to build it with: Rattle's kit has it"
     if ! mkdir -p -- "$root/target" || ! exec {lock}>"$root/target/lock"; then
         fail 70 "can't write in $root/target"
@@ -118,15 +119,15 @@ make() {
         say 'waiting for another build'
         flock "$lock"
     fi
-    if stale "$file"; then
+    if stale "$file" "$mark"; then
         say "building $crate: each crate that it needs is proved on this machine first, which takes minutes the first time"
         SECONDS=0
-        (cd -- "$root" && exec rt "$verb" "$crate") 2>&1 {lock}>&- | tee -- "$log" | progress "$(needed "$crate" | wc -l)"
-        if [ "${PIPESTATUS[0]}" -ne 0 ] || [ ! -e "$file" ]; then
-            cat -- "$log" >&2
+        : >"$mark.begun"
+        (cd -- "$root" && exec rt "$verb" "$crate") 2>&1 {lock}>&- | tee -- "$mark.log" | progress "$(needed "$crate" | wc -l)"
+        if [ "${PIPESTATUS[0]}" -ne 0 ] || [ ! -e "$file" ] || ! mv -- "$mark.begun" "$mark"; then
+            cat -- "$mark.log" >&2
             fail 70 "$crate could not be built; above is what rt said"
         fi
-        touch -- "$file"
     fi
     exec {lock}>&-
 }
