@@ -2,9 +2,7 @@
 use Prim.Native.Nat.{ℕ, suc}
 use mathlib.Core.Bool.{cond}
 use mathlib.Core.List.{List, [], _∷_}
-use lib.ListN.{getD}
 use Rattle.tables.specs.declared.Name.{Name}
-use Rattle.tables.specs.Names.{packed}
 use Rattle.model.specs.declared.Typing.{Typing as Table}
 use Rattle.walking.specs.Texts.{Reading, read, refused}
 use Rattle.lines.specs.declared.Counts.{Counts}
@@ -49,10 +47,6 @@ answerOf policy evidence = answerAfter (readPolicy policy) evidence
 unfoldable pub usersIn : Reading Said → List Name
 usersIn (read s) = s .users
 usersIn (refused number line) = []
-
--- the name of the user at a place of the policy; the name of no bytes where there is none
-unfoldable pub nameAt : List Name → ℕ → Name
-nameAt users user = getD users user (packed [])
 
 -- Document 01's number of an answer, and its values in the order of the table. A part is told by its number, a user by its number from 1.
 abbrev pub numberOf : Answer → ℕ

@@ -1,14 +1,10 @@
 -- How the answer follows from what a reader finds: the laws of its definition.
-use Prim.Native.Nat.{ℕ, zero, suc, _+_, _*_, _≤_, _<_}
+use Prim.Native.Nat.{ℕ}
 use mathlib.Core.Bool.{Bool, true, false, cond}
 use mathlib.Core.List.{List, []}
 use mathlib.Core.Path.{_≡_, refl, sym, ap, ap₂, _∙_}
-use lib.ListN.{drop, List·getD-eq-default}
-use lib.Seq.{drop-drop}
-use native.Mathlib.Omega.{arith}
 use Rattle.tables.specs.declared.Name.{Name}
-use Rattle.tables.specs.Names.{packed, rowOf, rows}
-use Rattle.tables.specs.NameLaws.{rows-length}
+use Rattle.tables.specs.Names.{packed, nameAt}
 use Rattle.model.specs.declared.Typing.{Typing as Table}
 use Rattle.walking.specs.Texts.{Reading, read, refused}
 use Rattle.lines.specs.declared.Counts.{Counts}
@@ -26,7 +22,7 @@ use Rattle.running.specs.declared.TraceVerdict.{TraceVerdict}
 use Rattle.running.specs.Verdict.{traceVerdict}
 use Rattle.answering.specs.declared.Answer.{Answer}
 use Rattle.answering.specs.declared.NamedAnswer.{NamedAnswer}
-use Rattle.answering.specs.Answers.{judgedAnswer, typingAnswer, traceAnswer, evidenceAnswer, answerAfter, answerOf, usersIn, nameAt}
+use Rattle.answering.specs.Answers.{judgedAnswer, typingAnswer, traceAnswer, evidenceAnswer, answerAfter, answerOf, usersIn}
 use Rattle.answering.specs.Named.{nameIn, namedOver, unnamedAnswer, namedAnswer}
 
 -- ---- a typing that is read
@@ -54,19 +50,6 @@ module _ (c : Counts) (subject : Subject) (names : List Name) (text : List ℕ) 
       ap (λ (table : Table). judgedAnswer c table (judgedTyping subject table)) (t .laid) ∙ sym (ap (typingAnswer c subject) (t .is))
 
 -- ---- the name of a user
-
--- the name in a table's row, and no name past its rows
-pub name-row : (count user : ℕ) (table : List ℕ) → user < count → rowOf (drop (4 * user) table) ≡ nameAt (rows count table) user
-unfolding nameAt rows
-name-row zero user table here = absurd (omega arith)
-name-row (suc count) zero table here = refl
-name-row (suc count) (suc user) table here =
-    let on : 4 + 4 * user ≡ 4 * suc user = omega arith in
-    ap rowOf (ap (λ (k : ℕ). drop k table) (sym on) ∙ sym (drop-drop (4 * user) 4 table)) ∙ name-row count user (drop 4 table) (omega arith)
-
-pub name-none : (count user : ℕ) (table : List ℕ) → count ≤ user → packed [] ≡ nameAt (rows count table) user
-unfolding nameAt
-name-none count user table past = sym (List·getD-eq-default (rows count table) (packed []) (omega (arith, rows-length count table)))
 
 -- the answer to a typing text speaks of none
 typing-unnamed : (users : List Name) (c : Counts) (subject : Subject) (r : Reading Typed) → unnamedAnswer (typingAnswer c subject r) ≡ namedOver users (typingAnswer c subject r)

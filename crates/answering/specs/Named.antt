@@ -2,11 +2,11 @@
 use Prim.Native.Nat.{ℕ}
 use mathlib.Core.List.{List, []}
 use Rattle.tables.specs.declared.Name.{Name}
-use Rattle.tables.specs.Names.{packed}
+use Rattle.tables.specs.Names.{packed, nameAt}
 use Rattle.reading.specs.Policy.{readPolicy}
 use Rattle.answering.specs.declared.Answer.{Answer}
 use Rattle.answering.specs.declared.NamedAnswer.{NamedAnswer}
-use Rattle.answering.specs.Answers.{answerOf, usersIn, nameAt}
+use Rattle.answering.specs.Answers.{answerOf, usersIn}
 
 -- ATTACKED speaks of a user; any other answer has the name of no bytes.
 unfoldable pub nameIn : List Name → Answer → Name

@@ -9,7 +9,7 @@ ghost use Rattle.reading.specs.Ledger.{ledgerSays, Limited};
 ghost use Rattle.typings.specs.TypingText.{readTyping};
 ghost use Rattle.judging.specs.Verdict.{subjectOf};
 ghost use Rattle.answering.specs.declared.Answer.{Answer};
-ghost use Rattle.answering.specs.Answers.{judgedAnswer, typingAnswer, traceAnswer, answerOf, nameAt};
+ghost use Rattle.answering.specs.Answers.{judgedAnswer, typingAnswer, traceAnswer, answerOf};
 ghost use Rattle.answering.specs.Named.{namedOver, unnamedAnswer, namedAnswer};
 use judging::Part;
 use judging::TypingVerdict;
@@ -67,17 +67,6 @@ fn unnamed(answer: Answer) -> NamedAnswer
     NamedAnswer { answer, name }
 }
 
-// The name of the user at a place, and the name of no bytes where there is none.
-fn name_at(users: &[u64], count: usize, user: usize) -> Name
-    requires { ⌜ 4 * count ≤ length (now users) ⌝ }
-    ensures { λ r. ⌜ r ≡ nameAt (rows count (now (users .entry))) user ⌝ }
-{
-    if user < count {
-        return tables::row(users, user);
-    }
-    tables::pack(b"")
-}
-
 // The answer to a trace, by its verdict, over the policy's users.
 fn traced(verdict: TraceVerdict, users: &[u64], count: usize) -> NamedAnswer
     requires { ⌜ 4 * count ≤ length (now users) ⌝ }
@@ -87,7 +76,7 @@ fn traced(verdict: TraceVerdict, users: &[u64], count: usize) -> NamedAnswer
         TraceVerdict::Refused(number, line) => unnamed(Answer::Refused(number, line)),
         TraceVerdict::Attacked(steps, user, goal) => {
             let answer = Answer::Attacked(steps, user, goal);
-            let name = name_at(users, count, user);
+            let name = tables::name_at(users, count, user);
             NamedAnswer { answer, name }
         }
         TraceVerdict::Broken(step) => unnamed(Answer::Broken(step)),

@@ -25,7 +25,8 @@ use Rattle.summing.specs.Sum as sum
 use Rattle.merging.specs.declared.MergeAnswer.{MergeAnswer}
 use Rattle.merging.specs.Merge as merge
 use Rattle.answering.specs.declared.Answer.{Answer}
-use Rattle.answering.specs.Answers.{numberOf, answerOf, nameAt}
+use Rattle.tables.specs.Names.{nameAt}
+use Rattle.answering.specs.Answers.{numberOf, answerOf}
 use Rattle.showing.specs.Fields.{field}
 use Rattle.printing.specs.Line.{lineOf, checkLine}
 use Rattle.printing.specs.LineSteps.{part-length}

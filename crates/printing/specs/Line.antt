@@ -8,7 +8,8 @@ use Rattle.judging.specs.declared.Part.{Part}
 use Rattle.writing.specs.Written.{spelled, decimal}
 use Rattle.showing.specs.Fields.{field}
 use Rattle.answering.specs.declared.Answer.{Answer}
-use Rattle.answering.specs.Answers.{answerOf, usersIn, nameAt}
+use Rattle.tables.specs.Names.{nameAt}
+use Rattle.answering.specs.Answers.{answerOf, usersIn}
 
 unfoldable pub partText : Part → List ℕ
 partText Part.Holdings = bytes "holdings"

@@ -14,20 +14,20 @@ use Rattle.summing.specs.Sum.{sumOutcome}
 use Rattle.merging.specs.declared.MergeAnswer.{MergeAnswer}
 use Rattle.merging.specs.Merge.{mergeOutcome}
 use Rattle.printing.specs.Line.{partText}
-use Rattle.wording.specs.declared.Subject.{Subject}
-use Rattle.wording.specs.Subjects.{subjectField}
+use Rattle.wording.specs.declared.Mention.{Mention}
+use Rattle.wording.specs.Mentions.{mentionField}
 
 -- ---- the line of an answer, with its LF
 
 unfoldable pub sumLine : SumAnswer → List ℕ
 sumLine (SumAnswer.Summed pinned written) = bytes "SUMMED" ++ field (decimal pinned) ++ field (decimal written) ++ bytes "\n"
-sumLine (SumAnswer.Refused which number line) = bytes "REFUSED" ++ field (decimal number) ++ field (decimal line) ++ subjectField Subject.SumText which ++ bytes "\n"
+sumLine (SumAnswer.Refused which number line) = bytes "REFUSED" ++ field (decimal number) ++ field (decimal line) ++ mentionField Mention.SumText which ++ bytes "\n"
 
 unfoldable pub mergeLine : MergeAnswer → List ℕ
 mergeLine (MergeAnswer.Merged roles assigns revokes goals pinned written) =
     bytes "MERGED" ++ field (decimal roles) ++ field (decimal assigns) ++ field (decimal revokes) ++ field (decimal goals) ++ field (decimal pinned) ++ field (decimal written) ++ bytes "\n"
-mergeLine (MergeAnswer.Unproved which part number) = bytes "UNPROVED" ++ field (partText part) ++ field (decimal number) ++ subjectField Subject.Judging which ++ bytes "\n"
-mergeLine (MergeAnswer.Refused which number line) = bytes "REFUSED" ++ field (decimal number) ++ field (decimal line) ++ subjectField Subject.MergeText which ++ bytes "\n"
+mergeLine (MergeAnswer.Unproved which part number) = bytes "UNPROVED" ++ field (partText part) ++ field (decimal number) ++ mentionField Mention.Judging which ++ bytes "\n"
+mergeLine (MergeAnswer.Refused which number line) = bytes "REFUSED" ++ field (decimal number) ++ field (decimal line) ++ mentionField Mention.MergeText which ++ bytes "\n"
 
 -- ---- files
 
@@ -40,8 +40,8 @@ firstMissing true true true false = 4
 firstMissing true true true true = 0
 
 -- NOFILE, then which file can't be read.
-unfoldable pub missingLine : Subject → (which : ℕ) → List ℕ
-missingLine subject which = bytes "NOFILE" ++ subjectField subject which ++ bytes "\n"
+unfoldable pub missingLine : Mention → (which : ℕ) → List ℕ
+missingLine mention which = bytes "NOFILE" ++ mentionField mention which ++ bytes "\n"
 
 -- An outcome with the line of its answer in the answer's place.
 unfoldable pub inWords : {A : Type 0} → (A → List ℕ) → Outcome A → Outcome (List ℕ)
@@ -50,11 +50,11 @@ inWords line (writes answer text) = writes (line answer) text
 
 -- NOFILE where a file is missing, else the answer to the texts and what it writes into a buffer with so much room.
 unfoldable pub sumReport : (missing : ℕ) (policy first second : List ℕ) → ℕ → Outcome (List ℕ)
-sumReport missing policy first second room = cond (eqb missing 0) (inWords sumLine (sumOutcome policy first second room)) (leaves (missingLine Subject.SumText missing))
+sumReport missing policy first second room = cond (eqb missing 0) (inWords sumLine (sumOutcome policy first second room)) (leaves (missingLine Mention.SumText missing))
 
 unfoldable pub mergeReport : (missing : ℕ) (policy₁ typing₁ policy₂ typing₂ : List ℕ) → ℕ → Outcome (List ℕ)
 mergeReport missing policy₁ typing₁ policy₂ typing₂ room =
-    cond (eqb missing 0) (inWords mergeLine (mergeOutcome policy₁ typing₁ policy₂ typing₂ room)) (leaves (missingLine Subject.MergeText missing))
+    cond (eqb missing 0) (inWords mergeLine (mergeOutcome policy₁ typing₁ policy₂ typing₂ room)) (leaves (missingLine Mention.MergeText missing))
 
 -- ---- what is made of an outcome
 

@@ -17,8 +17,8 @@ use Rattle.summing.specs.Sum.{sumOutcome}
 use Rattle.merging.specs.declared.MergeAnswer.{MergeAnswer}
 use Rattle.merging.specs.Merge.{mergeOutcome}
 use Rattle.printing.specs.LineSteps.{part-length}
-use Rattle.wording.specs.declared.Subject.{Subject}
-use Rattle.wording.specs.SubjectLaws.{subject-length}
+use Rattle.wording.specs.declared.Mention.{Mention}
+use Rattle.wording.specs.MentionLaws.{mention-length}
 use Rattle.reporting.specs.Report.{sumLine, mergeLine, firstMissing, missingLine, inWords, sumReport, mergeReport, isWritten}
 use Rattle.reporting.specs.ReportLaws.{Kind, left, made}
 use Rattle.reporting.specs.ReportKinds.{isSummed, sumTold, sum-kind, sum-missing, sum-there, isMerged, mergeTold, merge-kind, merge-missing, merge-there}
@@ -113,21 +113,21 @@ module _ (missing : ℕ) (policy₁ typing₁ policy₂ typing₂ : List ℕ) (r
 
 -- ---- how long a line is
 
-missing-length : (subject : Subject) (which : ℕ) → length (missingLine subject which) ≤ 192
+missing-length : (mention : Mention) (which : ℕ) → length (missingLine mention which) ≤ 192
 unfolding missingLine
-missing-length subject which = simp length-append (omega (arith, subject-length subject which))
+missing-length mention which = simp length-append (omega (arith, mention-length mention which))
 
 sum-length : (answer : SumAnswer) → length (sumLine answer) ≤ 192
 unfolding sumLine field
 sum-length (SumAnswer.Summed pinned written) = simp length-append (omega (arith, decimal-length pinned, decimal-length written))
-sum-length (SumAnswer.Refused which number line) = simp length-append (omega (arith, decimal-length number, decimal-length line, subject-length Subject.SumText which))
+sum-length (SumAnswer.Refused which number line) = simp length-append (omega (arith, decimal-length number, decimal-length line, mention-length Mention.SumText which))
 
 merge-length : (answer : MergeAnswer) → length (mergeLine answer) ≤ 192
 unfolding mergeLine field
 merge-length (MergeAnswer.Merged roles assigns revokes goals pinned written) =
     simp length-append (omega (arith, decimal-length roles, decimal-length assigns, decimal-length revokes, decimal-length goals, decimal-length pinned, decimal-length written))
-merge-length (MergeAnswer.Unproved which part number) = simp length-append (omega (arith, part-length part, decimal-length number, subject-length Subject.Judging which))
-merge-length (MergeAnswer.Refused which number line) = simp length-append (omega (arith, decimal-length number, decimal-length line, subject-length Subject.MergeText which))
+merge-length (MergeAnswer.Unproved which part number) = simp length-append (omega (arith, part-length part, decimal-length number, mention-length Mention.Judging which))
+merge-length (MergeAnswer.Refused which number line) = simp length-append (omega (arith, decimal-length number, decimal-length line, mention-length Mention.MergeText which))
 
 words-length : {A : Type 0} (words : A → List ℕ) → ((answer : A) → length (words answer) ≤ 192) → (outcome : Outcome A) → length (answerIn (inWords words outcome)) ≤ 192
 unfolding inWords answerIn
@@ -139,14 +139,14 @@ pub sum-longest : (missing : ℕ) (policy first second : List ℕ) (room : ℕ) 
 unfolding sumReport answerIn
 sum-longest missing policy first second room = go (eqb missing 0)
   where
-    go : (there : Bool) → length (answerIn (cond there (inWords sumLine (sumOutcome policy first second room)) (leaves (missingLine Subject.SumText missing)))) ≤ 192
+    go : (there : Bool) → length (answerIn (cond there (inWords sumLine (sumOutcome policy first second room)) (leaves (missingLine Mention.SumText missing)))) ≤ 192
     go true = words-length sumLine sum-length (sumOutcome policy first second room)
-    go false = missing-length Subject.SumText missing
+    go false = missing-length Mention.SumText missing
 
 pub merge-longest : (missing : ℕ) (policy₁ typing₁ policy₂ typing₂ : List ℕ) (room : ℕ) → length (answerIn (mergeReport missing policy₁ typing₁ policy₂ typing₂ room)) ≤ 192
 unfolding mergeReport answerIn
 merge-longest missing policy₁ typing₁ policy₂ typing₂ room = go (eqb missing 0)
   where
-    go : (there : Bool) → length (answerIn (cond there (inWords mergeLine (mergeOutcome policy₁ typing₁ policy₂ typing₂ room)) (leaves (missingLine Subject.MergeText missing)))) ≤ 192
+    go : (there : Bool) → length (answerIn (cond there (inWords mergeLine (mergeOutcome policy₁ typing₁ policy₂ typing₂ room)) (leaves (missingLine Mention.MergeText missing)))) ≤ 192
     go true = words-length mergeLine merge-length (mergeOutcome policy₁ typing₁ policy₂ typing₂ room)
-    go false = missing-length Subject.MergeText missing
+    go false = missing-length Mention.MergeText missing

@@ -19,9 +19,9 @@ use Rattle.summing.specs.Sums.{sumOf}
 use Rattle.merging.specs.declared.MergeAnswer.{MergeAnswer}
 use Rattle.merging.specs.Directory.{sameDirectory}
 use Rattle.merging.specs.Merge.{whenSame, whenAccepted, countsFit, mergeWritten, mergeCounted, mergeJudged, mergeOutcome}
-use Rattle.wording.specs.declared.Subject.{Subject}
-use Rattle.wording.specs.Subjects.{subjectField}
-use Rattle.wording.specs.SubjectLaws.{of-nothing}
+use Rattle.wording.specs.declared.Mention.{Mention}
+use Rattle.wording.specs.Mentions.{mentionField}
+use Rattle.wording.specs.MentionLaws.{of-nothing}
 use Rattle.reporting.specs.Report.{sumLine, mergeLine, missingLine, inWords, sumReport, mergeReport}
 use Rattle.reporting.specs.ReportLaws.{Kind, left, kind-read, kind-one, kind-fits}
 
@@ -45,7 +45,7 @@ sum-kind policy first second room =
     kind-fits isSummed sumTold room _ (SumAnswer.Refused 0 18 0) (typingText (s .roles) (sumOf (tableOf t) (tableOf u))) refl refl refl)))
 
 module _ (policy first second : List ℕ) (room : ℕ) {missing : ℕ} where
-  pub sum-missing : (missing ≡ 0 → ⊥) → sumReport missing policy first second room ≡ leaves (missingLine Subject.SumText missing)
+  pub sum-missing : (missing ≡ 0 → ⊥) → sumReport missing policy first second room ≡ leaves (missingLine Mention.SumText missing)
   unfolding sumReport
   sum-missing not-all = rw (ne-eqb missing 0 not-all)
 
@@ -54,9 +54,9 @@ module _ (policy first second : List ℕ) (room : ℕ) {missing : ℕ} where
   sum-there all = rw (eq-eqb missing 0 all)
 
 -- the line of a success speaks of no text
-pub summed-line : (pinned written : ℕ) → fieldsOn (bytes "SUMMED") (pinned ∷ written ∷ []) ++ subjectField Subject.SumText 0 ++ bytes "\n" ≡ sumLine (SumAnswer.Summed pinned written)
+pub summed-line : (pinned written : ℕ) → fieldsOn (bytes "SUMMED") (pinned ∷ written ∷ []) ++ mentionField Mention.SumText 0 ++ bytes "\n" ≡ sumLine (SumAnswer.Summed pinned written)
 unfolding fieldsOn sumLine
-summed-line pinned written = of-nothing (fieldsOn (bytes "SUMMED") (pinned ∷ written ∷ [])) Subject.SumText
+summed-line pinned written = of-nothing (fieldsOn (bytes "SUMMED") (pinned ∷ written ∷ [])) Mention.SumText
 
 -- ---- a merge
 
@@ -97,7 +97,7 @@ merge-kind policy₁ typing₁ policy₂ typing₂ room =
     judged-kind room s s′ (tableOf t) (tableOf u)))))
 
 module _ (policy₁ typing₁ policy₂ typing₂ : List ℕ) (room : ℕ) {missing : ℕ} where
-  pub merge-missing : (missing ≡ 0 → ⊥) → mergeReport missing policy₁ typing₁ policy₂ typing₂ room ≡ leaves (missingLine Subject.MergeText missing)
+  pub merge-missing : (missing ≡ 0 → ⊥) → mergeReport missing policy₁ typing₁ policy₂ typing₂ room ≡ leaves (missingLine Mention.MergeText missing)
   unfolding mergeReport
   merge-missing not-all = rw (ne-eqb missing 0 not-all)
 
@@ -106,6 +106,6 @@ module _ (policy₁ typing₁ policy₂ typing₂ : List ℕ) (room : ℕ) {miss
   merge-there all = rw (eq-eqb missing 0 all)
 
 pub merged-line : (roles assigns revokes goals pinned written : ℕ)
-    → fieldsOn (bytes "MERGED") (roles ∷ assigns ∷ revokes ∷ goals ∷ pinned ∷ written ∷ []) ++ subjectField Subject.MergeText 0 ++ bytes "\n" ≡ mergeLine (MergeAnswer.Merged roles assigns revokes goals pinned written)
+    → fieldsOn (bytes "MERGED") (roles ∷ assigns ∷ revokes ∷ goals ∷ pinned ∷ written ∷ []) ++ mentionField Mention.MergeText 0 ++ bytes "\n" ≡ mergeLine (MergeAnswer.Merged roles assigns revokes goals pinned written)
 unfolding fieldsOn mergeLine
-merged-line roles assigns revokes goals pinned written = of-nothing (fieldsOn (bytes "MERGED") (roles ∷ assigns ∷ revokes ∷ goals ∷ pinned ∷ written ∷ [])) Subject.MergeText
+merged-line roles assigns revokes goals pinned written = of-nothing (fieldsOn (bytes "MERGED") (roles ∷ assigns ∷ revokes ∷ goals ∷ pinned ∷ written ∷ [])) Mention.MergeText

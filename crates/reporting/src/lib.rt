@@ -7,7 +7,7 @@ use merging::MergeAnswer;
 use merging::merge::merge;
 use summing::SumAnswer;
 use summing::sum;
-use wording::Subject;
+use wording::Mention;
 use wording::show;
 use wording::show_unproved;
 
@@ -52,7 +52,7 @@ pub fn sum_report(
     if missing != 0 {
         return Report {
             text: 0,
-            line: show(line, b"NOFILE", &[], Subject::SumText, missing),
+            line: show(line, b"NOFILE", &[], Mention::SumText, missing),
         };
     }
     match sum(policy, first, second, out) {
@@ -62,7 +62,7 @@ pub fn sum_report(
                 line,
                 b"SUMMED",
                 &[pinned as u64, length as u64],
-                Subject::SumText,
+                Mention::SumText,
                 0,
             ),
         },
@@ -72,7 +72,7 @@ pub fn sum_report(
                 line,
                 b"REFUSED",
                 &[number, place as u64],
-                Subject::SumText,
+                Mention::SumText,
                 which,
             ),
         },
@@ -95,7 +95,7 @@ pub fn merge_report(
     if missing != 0 {
         return Report {
             text: 0,
-            line: show(line, b"NOFILE", &[], Subject::MergeText, missing),
+            line: show(line, b"NOFILE", &[], Mention::MergeText, missing),
         };
     }
     match merge(policy_1, typing_1, policy_2, typing_2, out) {
@@ -112,7 +112,7 @@ pub fn merge_report(
                     pinned as u64,
                     length as u64,
                 ],
-                Subject::MergeText,
+                Mention::MergeText,
                 0,
             ),
         },
@@ -126,7 +126,7 @@ pub fn merge_report(
                 line,
                 b"REFUSED",
                 &[number, place as u64],
-                Subject::MergeText,
+                Mention::MergeText,
                 which,
             ),
         },

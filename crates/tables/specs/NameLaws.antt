@@ -5,7 +5,7 @@ use mathlib.Core.List.{List, [], _∷_, _++_}
 use mathlib.Core.Path.{_≡_, refl, sym, ap, ap₂, _∙_}
 use borrow.Author.Tests.{leb-true, eqb-true}
 use lib.Dec.{eqb, leb, lit≤}
-use lib.ListN.{length, getD, take, drop, drop-of-length-le, length-drop, take-append-drop}
+use lib.ListN.{length, getD, take, drop, drop-of-length-le, length-drop, take-append-drop, List·getD-eq-default}
 use lib.Pow.{pow-add}
 use lib.Seq.{drop-cons, drop-drop, getD-drop, take-all}
 use native.Mathlib.Nat.{add-zero, zero-add, add-mul-div-left, div-div-eq-div-mul, div-eq-of-lt, div-one, pow-suc, pow-le-pow-right, zero-div}
@@ -14,7 +14,7 @@ use Rattle.tables.specs.declared.Name.{Name}
 use Rattle.text.specs.Eights.{eight-bytes}
 use Rattle.text.specs.Forms.{every, nameByte, isName}
 use Rattle.text.specs.FormLaws.{name-byte-range, every-take, every-drop}
-use Rattle.tables.specs.Names.{packed, placeOf, rowOf, rows, sameName, value}
+use Rattle.tables.specs.Names.{packed, placeOf, nameAt, rowOf, rows, sameName, value}
 
 -- ---- packing eight bytes, the last first
 
@@ -191,3 +191,16 @@ place-most (first ∷ rest) name = go (sameName first name) (place-most rest nam
     go : (b : Bool) → placeOf rest name ≤ length rest → cond b 0 (suc (placeOf rest name)) ≤ suc (length rest)
     go true below = zero-le
     go false below = omega arith
+
+-- the name in a table's row, and no name past its rows
+pub name-row : (count place : ℕ) (table : List ℕ) → place < count → rowOf (drop (4 * place) table) ≡ nameAt (rows count table) place
+unfolding nameAt rows
+name-row zero place table here = absurd (omega arith)
+name-row (suc count) zero table here = refl
+name-row (suc count) (suc place) table here =
+    let on : 4 + 4 * place ≡ 4 * suc place = omega arith in
+    ap rowOf (ap (λ (k : ℕ). drop k table) (sym on) ∙ sym (drop-drop (4 * place) 4 table)) ∙ name-row count place (drop 4 table) (omega arith)
+
+pub name-none : (count place : ℕ) (table : List ℕ) → count ≤ place → packed [] ≡ nameAt (rows count table) place
+unfolding nameAt
+name-none count place table past = sym (List·getD-eq-default (rows count table) (packed []) (omega (arith, rows-length count table)))

@@ -29,6 +29,10 @@ unfoldable pub placeOf : List Name → Name → ℕ
 placeOf [] name = 0
 placeOf (first ∷ rest) name = cond (sameName first name) 0 (suc (placeOf rest name))
 
+-- the name at a place, from 0; the name of no bytes where there is none
+unfoldable pub nameAt : List Name → ℕ → Name
+nameAt names place = getD names place (packed [])
+
 -- the first name of a table of names, four words each
 unfoldable pub rowOf : List ℕ → Name
 rowOf table = record { first = getD table 0 0; second = getD table 1 0; third = getD table 2 0; fourth = getD table 3 0 }

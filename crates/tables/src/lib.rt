@@ -2,7 +2,7 @@
 ghost use mathlib.Core.Path.{_≡_};
 ghost use Prim.Native.Nat.{_+_, _*_, _≤_, _<_};
 ghost use lib.ListN.{length, take, drop};
-ghost use Rattle.tables.specs.Names.{value, packed, sameName, placeOf, rowOf, rows};
+ghost use Rattle.tables.specs.Names.{value, packed, sameName, placeOf, nameAt, rowOf, rows};
 
 // A name of at most 32 bytes, eight to a word, the first lowest, and zeros past its end.
 pub struct Name {
@@ -106,6 +106,17 @@ pub fn row(table: &[u64], place: usize) -> Name
         third: table[at + 2],
         fourth: table[at + 3],
     }
+}
+
+// The name at a place among the first `count` of a table, and the name of no bytes where there is none.
+pub fn name_at(table: &[u64], count: usize, place: usize) -> Name
+    requires { ⌜ 4 * count ≤ length (now table) ⌝ }
+    ensures { λ r. ⌜ r ≡ nameAt (rows count (now (table .entry))) place ⌝ }
+{
+    if place < count {
+        return row(table, place);
+    }
+    pack(b"")
 }
 
 // The place of a name among the first `count` of a table, or `count` where it stands nowhere.

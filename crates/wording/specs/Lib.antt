@@ -1,3 +1,3 @@
 -- What a line of `sum` or `merge` speaks of.
-pub mod Subjects
-pub mod SubjectLaws
+pub mod Mentions
+pub mod MentionLaws

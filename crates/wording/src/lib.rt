@@ -8,8 +8,8 @@ ghost use Rattle.showing.specs.Fields.{field, fieldsOn};
 ghost use Rattle.showing.specs.Showing.{Shows};
 ghost use Rattle.showing.specs.Steps.{Goes};
 ghost use Rattle.printing.specs.Line.{partText};
-ghost use Rattle.wording.specs.declared.Subject.{Subject};
-ghost use Rattle.wording.specs.Subjects.{nthField, subjectField};
+ghost use Rattle.wording.specs.declared.Mention.{Mention};
+ghost use Rattle.wording.specs.Mentions.{nthField, mentionField};
 use judging::Part;
 use printing::begin_unproved;
 use showing::begin_line;
@@ -18,7 +18,7 @@ use showing::show_line;
 use showing::word_field;
 
 // What a line speaks of: a text of a sum, a text of a merge, or a judging of a merge.
-pub enum Subject {
+pub enum Mention {
     SumText,
     MergeText,
     Judging,
@@ -53,13 +53,13 @@ fn nth_field(
 }
 
 // Writes the field of what a line speaks of, and answers the place past it.
-fn subject_field(out: &mut [u8], at: usize, subject: Subject, which: usize) -> usize
+fn mention_field(out: &mut [u8], at: usize, mention: Mention, which: usize) -> usize
     requires { ⌜ at + 21 ≤ length (now out) ⌝ }
-    ensures { λ r. ⌜ Goes (subjectField subject which) 21 at (now (out .entry)) r (now (out .exit)) ⌝ }
+    ensures { λ r. ⌜ Goes (mentionField mention which) 21 at (now (out .entry)) r (now (out .exit)) ⌝ }
 {
-    match subject {
-        Subject::SumText => nth_field(out, at, which, b"policy", b"typing_1", b"typing_2", b""),
-        Subject::MergeText => nth_field(
+    match mention {
+        Mention::SumText => nth_field(out, at, which, b"policy", b"typing_1", b"typing_2", b""),
+        Mention::MergeText => nth_field(
             out,
             at,
             which,
@@ -68,7 +68,7 @@ fn subject_field(out: &mut [u8], at: usize, subject: Subject, which: usize) -> u
             b"policy_2",
             b"typing_2",
         ),
-        Subject::Judging => nth_field(
+        Mention::Judging => nth_field(
             out,
             at,
             which,
@@ -81,31 +81,31 @@ fn subject_field(out: &mut [u8], at: usize, subject: Subject, which: usize) -> u
 }
 
 // Ends a line with the field of what it speaks of, and answers the line's length.
-fn end_with(out: &mut [u8], at: usize, subject: Subject, which: usize) -> usize
+fn end_with(out: &mut [u8], at: usize, mention: Mention, which: usize) -> usize
     requires { ⌜ at + 22 ≤ length (now out) ⌝ }
-    ensures { λ r. ⌜ Goes (subjectField subject which ++ bytes "\n") 22 at (now (out .entry)) r (now (out .exit)) ⌝ }
+    ensures { λ r. ⌜ Goes (mentionField mention which ++ bytes "\n") 22 at (now (out .entry)) r (now (out .exit)) ⌝ }
 {
-    let last = subject_field(out, at, subject, which);
+    let last = mention_field(out, at, mention, which);
     end_line(out, last)
 }
 
 // Shows the line of a word, numbers and what it speaks of, and answers its length; 0 where the buffer is too short.
-pub fn show(line: &mut [u8], word: &[u8], numbers: &[u64], subject: Subject, which: usize) -> usize
+pub fn show(line: &mut [u8], word: &[u8], numbers: &[u64], mention: Mention, which: usize) -> usize
     requires { ⌜ (length (now word) ≤ 20) × (length (now numbers) ≤ 6) ⌝ }
-    ensures { λ r. ⌜ Shows (fieldsOn (now (word .entry)) (now (numbers .entry)) ++ subjectField subject which ++ bytes "\n") (now (line .entry)) r (now (line .exit)) ⌝ }
+    ensures { λ r. ⌜ Shows (fieldsOn (now (word .entry)) (now (numbers .entry)) ++ mentionField mention which ++ bytes "\n") (now (line .entry)) r (now (line .exit)) ⌝ }
 {
     let mut made = [0u8; 192];
     let at = begin_line(&mut made, word, numbers);
-    let length = end_with(&mut made, at, subject, which);
+    let length = end_with(&mut made, at, mention, which);
     show_line(&made[..length], line)
 }
 
 // Shows the line of a judging that fails, and answers its length; 0 where the buffer is too short.
 pub fn show_unproved(line: &mut [u8], which: usize, part: Part, number: usize) -> usize
-    ensures { λ r. ⌜ Shows (bytes "UNPROVED" ++ field (partText part) ++ field (decimal number) ++ subjectField Subject.Judging which ++ bytes "\n") (now (line .entry)) r (now (line .exit)) ⌝ }
+    ensures { λ r. ⌜ Shows (bytes "UNPROVED" ++ field (partText part) ++ field (decimal number) ++ mentionField Mention.Judging which ++ bytes "\n") (now (line .entry)) r (now (line .exit)) ⌝ }
 {
     let mut made = [0u8; 192];
     let at = begin_unproved(&mut made, part, number);
-    let length = end_with(&mut made, at, Subject::Judging, which);
+    let length = end_with(&mut made, at, Mention::Judging, which);
     show_line(&made[..length], line)
 }

@@ -1,8 +1,8 @@
 -- `nth_field` asks for one number after another.
 use borrow.Author.Needs.{needs}
 use denote.Ref.{now}
-use Rattle.wording.specs.Subjects.{nthField}
-use Rattle.wording.specs.SubjectLaws.{nth-known, nth-none}
+use Rattle.wording.specs.Mentions.{nthField}
+use Rattle.wording.specs.MentionLaws.{nth-known, nth-none}
 use Rattle.wording.proofs.nth_field.Statement.{statement}
 use Rattle.wording.proofs.nth_field.Tie as tie
 

@@ -8,14 +8,14 @@ use Rattle.text.specs.Forms.{bytes}
 use Rattle.showing.specs.Fields.{fieldsOn}
 use Rattle.showing.specs.Steps.{Line, line-both, taken, taken-length}
 use Rattle.showing.specs.Showing.{shows-as}
-use Rattle.wording.specs.Subjects.{subjectField}
+use Rattle.wording.specs.Mentions.{mentionField}
 use borrow.Author.Needs.{needs}
 use Rattle.wording.proofs.show.Statement.{statement}
 use Rattle.wording.proofs.show.Tie as tie
 
 -- the line is made in the array
-made : (c : tie.After-end-with) → Line (fieldsOn (now (c .before .before .before .before .before .before .before .before .args .word)) (now (c .before .before .before .before .before .before .before .before .args .numbers)) ++ subjectField (c .before .before .before .before .before .before .before .before .args .subject) (c .before .before .before .before .before .before .before .before .args .which) ++ bytes "\n") (20 + 21 * length (now (c .before .before .before .before .before .before .before .before .args .numbers)) + 22) (replicate 192 0) (c .end-with .result) (c .end-with .last .0)
-made c = line-both (subjectField (c .before .before .before .before .before .before .before .before .args .subject) (c .before .before .before .before .before .before .before .before .args .which)) (bytes "\n") (c .before .before .before .begin-line .ensures) (c .end-with .ensures) (omega (arith, length-replicate {A = ℕ} 192 0, c .before .before .before .before .before .before .before .before .pre .1))
+made : (c : tie.After-end-with) → Line (fieldsOn (now (c .before .before .before .before .before .before .before .before .args .word)) (now (c .before .before .before .before .before .before .before .before .args .numbers)) ++ mentionField (c .before .before .before .before .before .before .before .before .args .mention) (c .before .before .before .before .before .before .before .before .args .which) ++ bytes "\n") (20 + 21 * length (now (c .before .before .before .before .before .before .before .before .args .numbers)) + 22) (replicate 192 0) (c .end-with .result) (c .end-with .last .0)
+made c = line-both (mentionField (c .before .before .before .before .before .before .before .before .args .mention) (c .before .before .before .before .before .before .before .before .args .which)) (bytes "\n") (c .before .before .before .begin-line .ensures) (c .end-with .ensures) (omega (arith, length-replicate {A = ℕ} 192 0, c .before .before .before .before .before .before .before .before .pre .1))
 
 slice-aggregate-begin-line : tie.Need-slice-aggregate-begin-line
 slice-aggregate-begin-line c = search needs

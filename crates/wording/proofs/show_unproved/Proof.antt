@@ -9,15 +9,15 @@ use Rattle.showing.specs.Fields.{field}
 use Rattle.showing.specs.Steps.{Line, line-both, taken, taken-length}
 use Rattle.showing.specs.Showing.{shows-as}
 use Rattle.printing.specs.Line.{partText}
-use Rattle.wording.specs.declared.Subject.{Subject}
-use Rattle.wording.specs.Subjects.{subjectField}
+use Rattle.wording.specs.declared.Mention.{Mention}
+use Rattle.wording.specs.Mentions.{mentionField}
 use borrow.Author.Needs.{needs}
 use Rattle.wording.proofs.show_unproved.Statement.{statement}
 use Rattle.wording.proofs.show_unproved.Tie as tie
 
 -- the line is made in the array
-made : (c : tie.After-end-with) → Line (bytes "UNPROVED" ++ field (partText (c .before .before .before .before .before .before .args .part)) ++ field (decimal (c .before .before .before .before .before .before .args .number)) ++ subjectField Subject.Judging (c .before .before .before .before .before .before .args .which) ++ bytes "\n") (63) (replicate 192 0) (c .end-with .result) (c .end-with .last .0)
-made c = line-both (subjectField Subject.Judging (c .before .before .before .before .before .before .args .which)) (bytes "\n") (c .before .before .before .begin-unproved .ensures) (c .end-with .ensures) (omega (arith, length-replicate {A = ℕ} 192 0))
+made : (c : tie.After-end-with) → Line (bytes "UNPROVED" ++ field (partText (c .before .before .before .before .before .before .args .part)) ++ field (decimal (c .before .before .before .before .before .before .args .number)) ++ mentionField Mention.Judging (c .before .before .before .before .before .before .args .which) ++ bytes "\n") (63) (replicate 192 0) (c .end-with .result) (c .end-with .last .0)
+made c = line-both (mentionField Mention.Judging (c .before .before .before .before .before .before .args .which)) (bytes "\n") (c .before .before .before .begin-unproved .ensures) (c .end-with .ensures) (omega (arith, length-replicate {A = ℕ} 192 0))
 
 slice-aggregate-begin-unproved : tie.Need-slice-aggregate-begin-unproved
 slice-aggregate-begin-unproved c = search needs

@@ -1,10 +1,10 @@
--- `subject_field` has four words for each subject.
+-- `mention_field` has four words for each mention.
 use Rattle.showing.specs.Fields.{field}
-use Rattle.wording.specs.Subjects.{subjectField}
-use Rattle.wording.specs.SubjectLaws.{subject-known}
+use Rattle.wording.specs.Mentions.{mentionField}
+use Rattle.wording.specs.MentionLaws.{mention-known}
 use borrow.Author.Needs.{needs}
-use Rattle.wording.proofs.subject_field.Statement.{statement}
-use Rattle.wording.proofs.subject_field.Tie as tie
+use Rattle.wording.proofs.mention_field.Statement.{statement}
+use Rattle.wording.proofs.mention_field.Tie as tie
 
 enum-told : tie.Need-enum-told
 enum-told c = search needs
@@ -64,25 +64,25 @@ same-length : tie.Need-same-length
 same-length c = search needs
 
 returns : tie.Need-returns
-unfolding subjectField field
-returns c = subject-known (c .before .before .before .before .before .before .before .before .before .before .before .args .which) (c .before .before .before .before .before .before .before .before .enum-told .given .1) (c .before .before .nth-field .ensures)
+unfolding mentionField field
+returns c = mention-known (c .before .before .before .before .before .before .before .before .before .before .before .args .which) (c .before .before .before .before .before .before .before .before .enum-told .given .1) (c .before .before .nth-field .ensures)
 
 same-length-2 : tie.Need-same-length-2
 same-length-2 c = search needs
 
 returns-2 : tie.Need-returns-2
-unfolding subjectField field
-returns-2 c = subject-known (c .before .before .before .before .before .before .before .before .before .before .before .args .which) (c .before .before .before .before .before .before .before .before .enum-told2 .given .1) (c .before .before .nth-field2 .ensures)
+unfolding mentionField field
+returns-2 c = mention-known (c .before .before .before .before .before .before .before .before .before .before .before .args .which) (c .before .before .before .before .before .before .before .before .enum-told2 .given .1) (c .before .before .nth-field2 .ensures)
 
 same-length-3 : tie.Need-same-length-3
 same-length-3 c = search needs
 
 returns-3 : tie.Need-returns-3
-unfolding subjectField field
-returns-3 c = subject-known (c .before .before .before .before .before .before .before .before .before .before .before .args .which) (c .before .before .before .before .before .before .before .before .enum-told3 .given .1) (c .before .before .nth-field3 .ensures)
+unfolding mentionField field
+returns-3 c = mention-known (c .before .before .before .before .before .before .before .before .before .before .before .args .which) (c .before .before .before .before .before .before .before .before .enum-told3 .given .1) (c .before .before .nth-field3 .ensures)
 
-pub subject-field-spec : {M : Type 1} → statement M
-subject-field-spec =
+pub mention-field-spec : {M : Type 1} → statement M
+mention-field-spec =
     tie.close
     (tie.spec
     enum-told

@@ -1,4 +1,4 @@
--- How the field of a subject comes to be, and how long it is.
+-- How the field of a mention comes to be, and how long it is.
 use Prim.Native.Nat.{ℕ, _+_, _≤_}
 use mathlib.Core.Bool.{Bool, true, false, cond}
 use mathlib.Core.List.{List, [], _∷_, _++_, append-nil}
@@ -10,8 +10,8 @@ use native.Mathlib.Omega.{arith}
 use Rattle.text.specs.Forms.{bytes}
 use Rattle.showing.specs.Fields.{field}
 use Rattle.showing.specs.Steps.{Goes, goes-none}
-use Rattle.wording.specs.declared.Subject.{Subject}
-use Rattle.wording.specs.Subjects.{nthField, subjectField}
+use Rattle.wording.specs.declared.Mention.{Mention}
+use Rattle.wording.specs.Mentions.{nthField, mentionField}
 
 module _ (one two three four : List ℕ) {which most at next : ℕ} {before after : List ℕ} where
   -- a number that is known
@@ -23,16 +23,16 @@ pub nth-none : (one two three four : List ℕ) {which most at : ℕ} {out : List
 unfolding nthField
 nth-none one two three four {which} not-one not-two not-three not-four = rw (ne-eqb which 1 not-one, ne-eqb which 2 not-two, ne-eqb which 3 not-three, ne-eqb which 4 not-four) goes-none
 
--- a subject that is known
-pub subject-known : (which : ℕ) {subject known : Subject} {most at next : ℕ} {before after : List ℕ} → subject ≡ known → Goes (subjectField known which) most at before next after → Goes (subjectField subject which) most at before next after
-subject-known which {most = most} {at} {next} {before} {after} same goes = subst (λ (s : Subject). Goes (subjectField s which) most at before next after) (sym same) goes
+-- a mention that is known
+pub mention-known : (which : ℕ) {mention known : Mention} {most at next : ℕ} {before after : List ℕ} → mention ≡ known → Goes (mentionField known which) most at before next after → Goes (mentionField mention which) most at before next after
+mention-known which {most = most} {at} {next} {before} {after} same goes = subst (λ (s : Mention). Goes (mentionField s which) most at before next after) (sym same) goes
 
 -- a line that speaks of nothing
-pub of-nothing : (text : List ℕ) (subject : Subject) → text ++ subjectField subject 0 ++ bytes "\n" ≡ text ++ bytes "\n"
-unfolding subjectField nthField
-of-nothing text Subject.SumText = ap (λ (l : List ℕ). l ++ bytes "\n") (append-nil text)
-of-nothing text Subject.MergeText = ap (λ (l : List ℕ). l ++ bytes "\n") (append-nil text)
-of-nothing text Subject.Judging = ap (λ (l : List ℕ). l ++ bytes "\n") (append-nil text)
+pub of-nothing : (text : List ℕ) (mention : Mention) → text ++ mentionField mention 0 ++ bytes "\n" ≡ text ++ bytes "\n"
+unfolding mentionField nthField
+of-nothing text Mention.SumText = ap (λ (l : List ℕ). l ++ bytes "\n") (append-nil text)
+of-nothing text Mention.MergeText = ap (λ (l : List ℕ). l ++ bytes "\n") (append-nil text)
+of-nothing text Mention.Judging = ap (λ (l : List ℕ). l ++ bytes "\n") (append-nil text)
 
 -- what a line speaks of is short
 nth-length : (which most : ℕ) (one two three four : List ℕ) → length one ≤ most → length two ≤ most → length three ≤ most → length four ≤ most → length (nthField which one two three four) ≤ most + 1
@@ -46,8 +46,8 @@ nth-length which most one two three four first second third fourth = go (eqb whi
     go false false false true = omega (arith, fourth)
     go false false false false = omega arith
 
-pub subject-length : (subject : Subject) (which : ℕ) → length (subjectField subject which) ≤ 18
-unfolding subjectField field
-subject-length Subject.SumText which = nth-length which 17 _ _ _ _ (lit≤ tt) (lit≤ tt) (lit≤ tt) (lit≤ tt)
-subject-length Subject.MergeText which = nth-length which 17 _ _ _ _ (lit≤ tt) (lit≤ tt) (lit≤ tt) (lit≤ tt)
-subject-length Subject.Judging which = nth-length which 17 _ _ _ _ (lit≤ tt) (lit≤ tt) (lit≤ tt) (lit≤ tt)
+pub mention-length : (mention : Mention) (which : ℕ) → length (mentionField mention which) ≤ 18
+unfolding mentionField field
+mention-length Mention.SumText which = nth-length which 17 _ _ _ _ (lit≤ tt) (lit≤ tt) (lit≤ tt) (lit≤ tt)
+mention-length Mention.MergeText which = nth-length which 17 _ _ _ _ (lit≤ tt) (lit≤ tt) (lit≤ tt) (lit≤ tt)
+mention-length Mention.Judging which = nth-length which 17 _ _ _ _ (lit≤ tt) (lit≤ tt) (lit≤ tt) (lit≤ tt)

@@ -1,0 +1,2 @@
+-- A policy as a text.
+pub mod PolicyText
