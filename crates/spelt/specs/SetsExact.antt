@@ -28,7 +28,7 @@ unfolding joinedAfter parted
 joined-parted name [] = refl
 joined-parted name (next ∷ more) = append-assoc name (bytes ",") (joinedAfter next more) ∙ ap (λ (l : List ℕ). name ++ (44 ∷ l)) (joined-parted next more)
 
-names-joined : (field : List ℕ) → field ≡ joined (namesOf field)
+pub names-joined : (field : List ℕ) → field ≡ joined (namesOf field)
 unfolding namesOf joined
 names-joined field = go (sameBytes field (bytes "-")) refl (split-piece 44 field)
   where
