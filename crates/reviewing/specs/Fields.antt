@@ -2,9 +2,9 @@
 use Prim.Native.Nat.{ℕ}
 use mathlib.Core.Bool.{Bool, true, false, cond}
 use mathlib.Core.List.{List, [], _∷_, _++_}
-use mathlib.Core.Path.{_≡_, refl, sym, ap, _∙_}
+use mathlib.Core.Path.{_≡_, sym, ap, _∙_}
 use lib.Dec.{eqb}
-use Rattle.text.specs.Forms.{bytes, every}
+use Rattle.text.specs.Forms.{every}
 use Rattle.text.specs.Pieces.{split, onto}
 use Rattle.text.specs.PieceLaws.{split-piece}
 use Rattle.showing.specs.Fields.{field}

@@ -4,7 +4,7 @@ use mathlib.Core.Bool.{Bool, true, false, cond, not, _&&_}
 use mathlib.Core.List.{List, [], _∷_, _++_}
 use mathlib.Core.Path.{_≡_, refl, sym, ap, ap₂, _∙_}
 use borrow.Author.Tests.{lt-ltb, le-ltb, le-leb, eq-eqb}
-use lib.Dec.{eqb, ltb, leb}
+use lib.Dec.{eqb}
 use lib.ListN.{length}
 use native.Mathlib.Omega.{arith}
 use Rattle.roles.specs.declared.RoleSet.{RoleSet}
@@ -12,14 +12,14 @@ use Rattle.roles.specs.Sets.{emptySet, hasRole}
 use Rattle.model.specs.declared.Assign.{Assign}
 use Rattle.model.specs.declared.Revoke.{Revoke}
 use Rattle.model.specs.Policy.{person, assigning}
-use Rattle.text.specs.Forms.{bytes, every, isName, isSet, isLabel, namesOf}
+use Rattle.text.specs.Forms.{bytes, every, namesOf}
 use Rattle.text.specs.Pieces.{split, onto, sameBytes}
 use Rattle.tables.specs.declared.Name.{Name}
-use Rattle.tables.specs.Names.{packed, placeOf, nameAt}
+use Rattle.tables.specs.Names.{placeOf, nameAt}
 use Rattle.tables.specs.Named.{Spelt, Named}
-use Rattle.fields.specs.Fields.{placed, isDeclared, allDeclared, rolesFrom, rolesOf}
+use Rattle.fields.specs.Fields.{placed, isDeclared, rolesFrom, rolesOf}
 use Rattle.fields.specs.Roles.{Inside}
-use Rattle.walking.specs.Texts.{Judged, goes, ends, bad}
+use Rattle.walking.specs.Texts.{goes, ends, bad}
 use Rattle.walking.specs.Turns.{test, inTurn}
 use Rattle.walking.specs.TurnLaws.{turn-passes}
 use Rattle.lines.specs.declared.Entry.{Entry}
