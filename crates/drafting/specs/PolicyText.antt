@@ -5,9 +5,7 @@ use mathlib.Core.List.{List, [], _∷_, _++_}
 use lib.ListN.{length, getD}
 use Rattle.roles.specs.declared.RoleSet.{RoleSet}
 use Rattle.roles.specs.Sets.{emptySet, hasRole}
-use Rattle.model.specs.declared.Assign.{Assign}
-use Rattle.model.specs.declared.Revoke.{Revoke}
-use Rattle.model.specs.Policy.{assigning, person}
+use Rattle.model.specs.Policy.{noAssign, noRevoke, person}
 use Rattle.text.specs.Forms.{bytes}
 use Rattle.tables.specs.declared.Name.{Name}
 use Rattle.tables.specs.Names.{nameAt}
@@ -39,13 +37,6 @@ linesText roles users (entry ∷ entries) = lineText roles users entry ++ bytes 
 unfoldable pub heldFrom : (user role : ℕ) → RoleSet → List Name → List Entry
 heldFrom user role held [] = []
 heldFrom user role held (name ∷ names) = cond (hasRole held role) (Entry.Has user role ∷ heldFrom user (suc role) held names) (heldFrom user (suc role) held names)
-
--- What stands for a place past the last rule.
-unfoldable pub noAssign : Assign
-noAssign = assigning 0 emptySet emptySet 0
-
-unfoldable pub noRevoke : Revoke
-noRevoke = record { admin = 0; target = 0 }
 
 -- A block is the lines of one kind. It has an element for each role, user, rule or goal, in the order read: a line for each, and in the
 -- block of has lines those of a user.

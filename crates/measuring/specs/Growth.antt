@@ -15,7 +15,7 @@ use Rattle.roles.specs.MemberLaws.{has-empty}
 use Rattle.model.specs.declared.Assign.{Assign}
 use Rattle.model.specs.declared.Revoke.{Revoke}
 use Rattle.model.specs.declared.Person.{Person}
-use Rattle.model.specs.Policy.{State, nobody, person, withRoles, withRole, granted}
+use Rattle.model.specs.Policy.{noAssign, noRevoke, nobody, person, withRole, granted}
 use Rattle.tables.specs.declared.Name.{Name}
 use Rattle.tables.specs.Names.{packed, nameAt}
 use Rattle.lines.specs.declared.Entry.{Entry}
@@ -24,7 +24,7 @@ use Rattle.text.specs.Forms.{bytes}
 use Rattle.writing.specs.Written.{spelled}
 use Rattle.showing.specs.Fields.{field}
 use Rattle.drafting.specs.declared.Block.{Block}
-use Rattle.drafting.specs.PolicyText.{lineText, linesText, heldFrom, noAssign, noRevoke, blockSize, element}
+use Rattle.drafting.specs.PolicyText.{lineText, linesText, heldFrom, blockSize, element}
 use Rattle.measuring.specs.Sums.{sumFrom, sum-last, sum-same, sum-none, sum-more, weight, weight-none, weight-with}
 use Rattle.measuring.specs.Blocks.{lineSize, linesSize, lines-one, held-size, elementSize, blockLength, blocksLength}
 

@@ -32,14 +32,14 @@ use Rattle.rereading.specs.Rows.{header-good, end-good, lineText, line-f
 -- ---- a line that is written with its LF, as a reader finds it
 
 module _ {S : Type 0} (judge : S → List ℕ → Judged S) (malformed : ℕ) (s : S) (number : ℕ) (line : List ℕ) (unbroken : free 10 line ≡ true) where
-  -- a line that adds leads to the lines below it,
-  line-goes : {t : S} (rest : List ℕ) → judge s line ≡ goes t → readLines judge malformed s number (split 10 (line ++ (10 ∷ rest))) ≡ readLines judge malformed t (suc number) (split 10 rest)
+  -- A line that adds leads to the lines below it,
+  pub line-goes : {t : S} (rest : List ℕ) → judge s line ≡ goes t → readLines judge malformed s number (split 10 (line ++ (10 ∷ rest))) ≡ readLines judge malformed t (suc number) (split 10 rest)
   line-goes rest good =
       lines-next judge malformed s number rest (cut-first 10 line rest unbroken)
       ∙ onward-goes judge malformed s number (split 10 rest) (λ t. readLines judge malformed t (suc number) (split 10 rest)) good
 
-  -- and `end` with nothing below it to what was read
-  line-ends : judge s line ≡ ends → readLines judge malformed s number (split 10 (line ++ (10 ∷ []))) ≡ read s
+  -- and `end` with nothing below it to what was read.
+  pub line-ends : judge s line ≡ ends → readLines judge malformed s number (split 10 (line ++ (10 ∷ []))) ≡ read s
   line-ends good =
       lines-next judge malformed s number [] (cut-first 10 line [] unbroken)
       ∙ onward-ends judge malformed s number (split 10 []) (λ t. readLines judge malformed t (suc number) (split 10 [])) good

@@ -53,10 +53,14 @@ spelling spelt = ap spelled (spelt .packing) ∙ spelled-packed (spelt .field) (
 pub spelled-form : {name : Name} → Spelt name → isName (spelled name) ≡ true
 spelled-form spelt = ap isName (spelling spelt) ∙ spelt .form
 
+-- packed are the name again,
+pub spelled-back : {name : Name} → Spelt name → packed (spelled name) ≡ name
+spelled-back spelt = ap packed (spelling spelt) ∙ sym (spelt .packing)
+
 -- and stand where the packed name does.
 pub spelled-placed : (table : List Name) {name : Name} → Spelt name → placed table (spelled name) ≡ placeOf table name
 unfolding placed
-spelled-placed table spelt = ap (placeOf table) (ap packed (spelling spelt) ∙ sym (spelt .packing))
+spelled-placed table spelt = ap (placeOf table) (spelled-back spelt)
 
 -- ---- the names that are written of a set
 

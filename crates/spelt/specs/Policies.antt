@@ -12,12 +12,11 @@ use Rattle.text.specs.Pieces.{sameBytes, among, repeated}
 use Rattle.text.specs.PieceLaws.{same-equal}
 use Rattle.fields.specs.Fields.{placed}
 use Rattle.writing.specs.Written.{spelled}
-use Rattle.writing.specs.Spelling.{spelled-packed}
 use Rattle.walking.specs.Texts.{read}
 use Rattle.reading.specs.Policy.{Said, readPolicy}
-use Rattle.tables.specs.Named.{Spelt, Named}
+use Rattle.tables.specs.Named.{Named}
 use Rattle.reading.specs.Sound.{read-sound}
-use Rattle.rereading.specs.Standing.{Standing, none, more, standing, spelled-form, spelled-placed}
+use Rattle.rereading.specs.Standing.{Standing, none, more, standing, spelled-form, spelled-back as name-back, spelled-placed}
 use Rattle.spelt.specs.Names.{Names}
 
 -- A table of packed names, by their bytes: they are names, none stands twice, and the table has them in their order.
@@ -38,10 +37,7 @@ module _ {table : List Name} where
   -- packed they are the names again
   spelled-back : {role : ℕ} {rest : List Name} → Standing table role rest → rest ≡ map packed (map spelled rest)
   spelled-back (none last) = refl
-  spelled-back (more {name = name} spelt at below) = ap₂ _∷_ (own spelt) (spelled-back below)
-    where
-      own : {name : Name} → Spelt name → name ≡ packed (spelled name)
-      own spelt = spelt .packing ∙ ap packed (sym (spelled-packed (spelt .field) (spelt .form)) ∙ ap spelled (sym (spelt .packing)))
+  spelled-back (more spelt at below) = ap₂ _∷_ (sym (name-back spelt)) (spelled-back below)
 
   -- a name that stands before some of them is not among these
   spelled-new : (field : List ℕ) {role : ℕ} {rest : List Name} → placed table field < role → Standing table role rest → among field (map spelled rest) ≡ false

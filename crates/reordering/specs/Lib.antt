@@ -1,0 +1,2 @@
+-- Policy texts that differ in the order of has lines and of names inside sets.
+pub mod Alike

@@ -1,0 +1,34 @@
+-- A policy that is written reads back as itself.
+use Prim.Native.Nat.{ℕ, _≤_}
+use mathlib.Core.List.{List, [], _∷_, _++_, append-nil}
+use mathlib.Core.Path.{_≡_, ap, _∙_}
+use lib.ListN.{length}
+use Rattle.text.specs.Forms.{bytes}
+use Rattle.text.specs.Pieces.{split}
+use Rattle.walking.specs.Texts.{read, readLines}
+use Rattle.walking.specs.TextLaws.{text-fits}
+use Rattle.lines.specs.declared.Entry.{Entry}
+use Rattle.lines.specs.Lines.{goalKind}
+use Rattle.reading.specs.Policy.{Said, nothing, judgeLine, readPolicy}
+use Rattle.reading.specs.Sound.{read-sound}
+use Rattle.drafting.specs.PolicyText.{lineText, linesText, entriesOf, policyText}
+use Rattle.rereading.specs.Back.{line-ends}
+use Rattle.reviewing.specs.Lines.{end-free, end-ends}
+use Rattle.reviewing.specs.Runs.{goods-read}
+use Rattle.reviewing.specs.Goals.{read-stage, read-goals, read-some}
+use Rattle.reviewing.specs.Blocks.{blocks-good}
+
+-- the last line
+end-back : (s : Said) → s .stage ≡ goalKind → (number : ℕ) → readLines judgeLine 11 s number (split 10 (linesText (s .roles) (s .users) (Entry.End ∷ []))) ≡ read s
+unfolding linesText
+end-back s last number =
+    let line = lineText (s .roles) (s .users) Entry.End in
+    ap (λ (l : List ℕ). readLines judgeLine 11 s number (split 10 l)) (append-nil (line ++ bytes "\n"))
+    ∙ line-ends judgeLine 11 s number line (end-free (s .roles) (s .users)) (end-ends (s .roles) (s .users) s last)
+
+-- A policy that is read and written reads back as itself.
+pub spelled-reads-back : (text : List ℕ) {s : Said} → readPolicy text ≡ read s → length (policyText s) ≤ 32768 → readPolicy (policyText s) ≡ read s
+unfolding readPolicy policyText entriesOf
+spelled-reads-back text {s} is short =
+    text-fits judgeLine 11 10 nothing (policyText s) short
+    ∙ goods-read (Entry.End ∷ []) (blocks-good (read-sound text is) (read-goals text is) (read-stage text is) (read-some text is)) (end-back s (read-stage text is)) 1

@@ -1,0 +1,1 @@
+// What is written of a policy is read back as that policy; this crate has theorems and no functions.
