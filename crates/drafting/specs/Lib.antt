@@ -1,2 +1,4 @@
 -- A policy as a text.
 pub mod PolicyText
+pub mod Adding
+pub mod LineLaws
