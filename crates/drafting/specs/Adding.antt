@@ -16,12 +16,15 @@ use Rattle.spelling.specs.Growth.{Grows, piece-room, part-within}
 abbrev pub Adds : (piece : List ℕ) (at : ℕ) (before : List ℕ) (next : ℕ) (after : List ℕ) → Type 0
 Adds piece at before next after = Goes piece (length piece) at before next after
 
--- nothing, and the same piece in other words
+-- nothing; the same piece in other words, and the room for it
 pub adds-none : {at : ℕ} {out : List ℕ} → Adds [] at out at out
 adds-none = goes-none
 
 pub adds-as : {one two before after : List ℕ} {at next : ℕ} → one ≡ two → Adds one at before next after → Adds two at before next after
 adds-as same adds = rw same at adds
+
+pub room-as : (at : ℕ) {one two : List ℕ} {size : ℕ} → one ≡ two → at + length two ≤ size → at + length one ≤ size
+room-as at same fits = rw same fits
 
 -- one piece, then another
 pub adds-both : {one two before between after : List ℕ} {at to next : ℕ} → Adds one at before to between → Adds two to between next after → Adds (one ++ two) at before next after

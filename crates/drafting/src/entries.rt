@@ -1,16 +1,23 @@
 // The line of an entry, written field after field from a place of a lent buffer on.
-ghost use mathlib.Core.List.{[], _++_};
+ghost use mathlib.Core.List.{[], _∷_, _++_};
 ghost use Prim.Native.Nat.{_+_, _*_, _≤_};
 ghost use lib.ListN.{length};
+ghost use Rattle.ledgers.specs.Ledger.{ledgerWords};
 ghost use Rattle.lines.specs.declared.Entry.{Entry};
+ghost use Rattle.reading.specs.Ledger.{Limited};
 ghost use Rattle.tables.specs.Names.{rows};
 ghost use Rattle.writing.specs.Written.{spelled};
 ghost use Rattle.showing.specs.Fields.{field};
 ghost use Rattle.spelling.specs.TypingText.{setText};
 ghost use Rattle.drafting.specs.PolicyText.{lineText};
+ghost use Rattle.drafting.specs.LineLaws.{lineIn, linesIn};
 ghost use Rattle.drafting.specs.Adding.{Adds};
+use ledgers::USERS;
+use lines::Counts;
+use lines::Entry;
 use model::Assign;
 use roles::RoleSet;
+use showing::end_line;
 use spelling::write_set;
 use tables::Name;
 use tables::name_at;
@@ -97,4 +104,38 @@ fn assign_on(out: &mut [u8], at: usize, roles: &[u64], count: usize, rule: Assig
     let second = set_on(out, from, roles, count, positive);
     let third = set_on(out, second, roles, count, negative);
     name_on(out, third, target)
+}
+
+// Writes an entry's line without its LF from a place on, and answers the place past it.
+fn entry_on(out: &mut [u8], at: usize, ledger: &[u64], c: Counts, entry: Entry) -> usize
+    requires { ⌜ (ledgerWords ≤ length (now ledger)) × Limited c × (at + length (lineIn (now ledger) c entry) ≤ length (now out)) ⌝ }
+    ensures { λ r. ⌜ Adds (lineIn (now (ledger .entry)) c entry) at (now (out .entry)) r (now (out .exit)) ⌝ }
+{
+    match entry {
+        Entry::Header => bytes_on(out, at, b"arbac\t1"),
+        Entry::Role(name) => named_on(out, at, b"role", name),
+        Entry::User(name, clearance) => user_on(out, at, name, clearance),
+        Entry::Has(user, role) => {
+            let holder = name_at(&ledger[USERS..], c.users, user);
+            let held = name_at(ledger, c.roles, role);
+            pair_on(out, at, b"has", holder, held)
+        }
+        Entry::Assign(rule) => assign_on(out, at, ledger, c.roles, rule),
+        Entry::Revoke(rule) => {
+            let admin = name_at(ledger, c.roles, rule.admin);
+            let target = name_at(ledger, c.roles, rule.target);
+            pair_on(out, at, b"revoke", admin, target)
+        }
+        Entry::Goal(goal) => goal_on(out, at, ledger, c.roles, goal),
+        Entry::End => bytes_on(out, at, b"end"),
+    }
+}
+
+// Writes an entry's line from a place on, and answers the place past it.
+pub fn line_on(out: &mut [u8], at: usize, ledger: &[u64], c: Counts, entry: Entry) -> usize
+    requires { ⌜ (ledgerWords ≤ length (now ledger)) × Limited c × (at + length (linesIn (now ledger) c (entry ∷ [])) ≤ length (now out)) ⌝ }
+    ensures { λ r. ⌜ Adds (linesIn (now (ledger .entry)) c (entry ∷ [])) at (now (out .entry)) r (now (out .exit)) ⌝ }
+{
+    let end = entry_on(out, at, ledger, c, entry);
+    end_line(out, end)
 }
