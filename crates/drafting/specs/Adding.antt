@@ -1,16 +1,14 @@
 -- A piece of text added from a place of a buffer on, in the room that it takes.
-use Prim.Native.Nat.{ℕ, _+_, _-_, _≤_}
-use mathlib.Core.List.{List, [], _∷_, _++_}
-use mathlib.Core.Path.{_≡_, ap, _∙_}
+use Prim.Native.Nat.{ℕ, _+_, _≤_, _<_}
+use mathlib.Core.List.{List, [], _++_}
+use mathlib.Core.Path.{_≡_, refl}
 use lib.ListN.{length, set, length-append}
-use native.Mathlib.Numerals.{add-one}
 use native.Mathlib.Omega.{arith}
-use Rattle.text.specs.Forms.{bytes}
 use Rattle.writing.specs.Written.{put}
-use Rattle.writing.specs.Buffers.{from, back, wrote, written, wrote-none, wrote-more, room}
+use Rattle.writing.specs.Buffers.{from, back, wrote, written, wrote-none, wrote-more}
 use Rattle.showing.specs.Fields.{field}
-use Rattle.showing.specs.Steps.{Goes, goes-none, goes-both, goes-field, field-room}
-use Rattle.spelling.specs.Growth.{Grows, piece-room, part-within}
+use Rattle.showing.specs.Steps.{Goes, goes-none, goes-both, goes-field}
+use Rattle.spelling.specs.Growth.{Grows, piece-room}
 
 -- The text before a place goes on by a piece, where there is room for it.
 abbrev pub Adds : (piece : List ℕ) (at : ℕ) (before : List ℕ) (next : ℕ) (after : List ℕ) → Type 0
@@ -50,3 +48,14 @@ both-room at one two fits = omega (arith, length-append one two)
 -- the text that is added at the start is put there
 pub adds-all : {text buffer out : List ℕ} {n : ℕ} → Adds text 0 buffer n out → length text ≤ length buffer → (n ≡ length text) × (out ≡ put text buffer)
 adds-all adds fits = written (adds .wrote [] _ wrote-none (omega arith))
+
+-- ---- a text that grows by a piece at each step
+
+module _ {text piece : ℕ → List ℕ} (grows : Grows text piece) where
+  -- where the whole has room, so has the next piece past those that are added
+  pub next-room : (k n at : ℕ) {size : ℕ} → k < n → at + length (text n) ≤ size → at + length (text k) + length (piece k) ≤ size
+  next-room k n at below fits = omega (arith, piece-room grows k n {at = length (text k)} {size = length (text n)} below (omega arith) refl)
+
+  -- the next piece is added past them
+  pub adds-next : (k : ℕ) {at to next : ℕ} {before out after : List ℕ} → Adds (text k) at before to out → Adds (piece k) to out next after → Adds (text (k + 1)) at before next after
+  adds-next k done more = adds-as (grows .next k) (adds-both done more)

@@ -2,3 +2,4 @@
 pub mod PolicyText
 pub mod Adding
 pub mod LineLaws
+pub mod BlockLaws

@@ -85,7 +85,11 @@ module _ (words : List ℕ) (c : Counts) {entry : Entry} where
   unfolding lineIn lineText
   end-in is = rw is
 
--- a line with its LF
+-- no line, and a line with its LF
+pub lines-none : (words : List ℕ) (c : Counts) → [] ≡ linesIn words c []
+unfolding linesIn linesText
+lines-none words c = refl
+
 pub line-in : (words : List ℕ) (c : Counts) (entry : Entry) → lineIn words c entry ++ bytes "\n" ≡ linesIn words c (entry ∷ [])
 unfolding lineIn linesIn linesText
 line-in words c entry = sym (append-nil (lineIn words c entry ++ bytes "\n"))
