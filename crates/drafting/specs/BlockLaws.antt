@@ -3,7 +3,7 @@ use Prim.Native.Nat.{ℕ, zero, suc, _+_, _≤_, _<_}
 use mathlib.Core.Bool.{Bool, true, false, cond}
 use mathlib.Core.List.{List, [], _∷_, _++_, append-assoc, append-nil}
 use mathlib.Core.Path.{_≡_, refl, sym, ap, ap₂, _∙_}
-use lib.ListN.{length}
+use lib.ListN.{length, length-append}
 use native.Mathlib.Nat.{add-zero}
 use native.Mathlib.Numerals.{add-one}
 use native.Mathlib.Omega.{arith}
@@ -27,7 +27,7 @@ use Rattle.reading.specs.Ledger.{ledgerSays}
 use Rattle.writing.specs.Buffers.{from}
 use Rattle.spelling.specs.Growth.{Grows}
 use Rattle.drafting.specs.declared.Block.{Block}
-use Rattle.drafting.specs.PolicyText.{lineText, linesText, heldFrom, noAssign, noRevoke, blockSize, element, firstOf, blockOf}
+use Rattle.drafting.specs.PolicyText.{lineText, linesText, heldFrom, noAssign, noRevoke, blockSize, element, firstOf, blockOf, entriesOf, policyText}
 use Rattle.drafting.specs.LineLaws.{linesIn, lines-none}
 
 -- ---- lines that grow
@@ -172,3 +172,28 @@ module _ (words : List ℕ) (c : Counts) (block : Block) where
   first-all {size} {place} is most least =
       let last : place ≡ blockSize (ledgerSays words c) block = omega arith in
       rw last
+
+-- ---- the whole text, block by block
+
+-- A block's text over a ledger.
+abbrev pub blockIn : List ℕ → Counts → Block → List ℕ
+blockIn words c block = linesIn words c (blockOf (ledgerSays words c) block)
+
+-- The header, the blocks and `end`, each past the one before.
+abbrev pub policyIn : List ℕ → Counts → List ℕ
+policyIn words c =
+    linesIn words c (Entry.Header ∷ []) ++ blockIn words c Block.Roles ++ blockIn words c Block.Users ++ blockIn words c Block.Has ++ blockIn words c Block.Assigns ++ blockIn words c Block.Revokes ++ blockIn words c Block.Goals ++ linesIn words c (Entry.End ∷ [])
+
+module _ (words : List ℕ) (c : Counts) where
+  blocks-both : policyIn words c ≡ linesIn words c (entriesOf (ledgerSays words c))
+  unfolding entriesOf
+  blocks-both = simp (lines-both words c)
+
+  pub policy-text : policyIn words c ≡ policyText (ledgerSays words c)
+  unfolding linesIn policyText
+  policy-text = blocks-both
+
+  -- where the whole has room, so have the header, the blocks and `end`
+  pub policy-room : {size : ℕ} → length (policyText (ledgerSays words c)) ≤ size
+      → length (linesIn words c (Entry.Header ∷ [])) + length (blockIn words c Block.Roles) + length (blockIn words c Block.Users) + length (blockIn words c Block.Has) + length (blockIn words c Block.Assigns) + length (blockIn words c Block.Revokes) + length (blockIn words c Block.Goals) + length (linesIn words c (Entry.End ∷ [])) ≤ size
+  policy-room fits = omega (arith, simp length-append at (ap length policy-text))
