@@ -2,7 +2,7 @@
 use Prim.Native.Nat.{ℕ, zero, suc, _+_, _≤_, _<_}
 use mathlib.Core.Bool.{Bool, true, false, cond}
 use mathlib.Core.List.{List, [], _∷_, _++_, append-assoc, append-nil}
-use mathlib.Core.Path.{_≡_, refl, sym, ap, ap₂, _∙_}
+use mathlib.Core.Path.{_≡_, refl, sym, ap, _∙_}
 use lib.ListN.{length, length-append}
 use native.Mathlib.Nat.{add-zero}
 use native.Mathlib.Numerals.{add-one}
@@ -22,7 +22,6 @@ use Rattle.ledgers.specs.Ledger.{roleNames, userNames, people, assignRules, rev
 use Rattle.ledgers.specs.LedgerLaws.{roles-rows, users-lent}
 use Rattle.lines.specs.declared.Counts.{Counts}
 use Rattle.lines.specs.declared.Entry.{Entry}
-use Rattle.reading.specs.Policy.{Said}
 use Rattle.reading.specs.Ledger.{ledgerSays}
 use Rattle.writing.specs.Buffers.{from}
 use Rattle.spelling.specs.Growth.{Grows}

@@ -1,5 +1,5 @@
 // The lines of a block, written from a place of a lent buffer on, an element after another.
-ghost use mathlib.Core.List.{List, [], _∷_};
+ghost use mathlib.Core.List.{List};
 ghost use mathlib.Core.Path.{_≡_};
 ghost use Prim.Native.Nat.{ℕ, _+_, _≤_, _<_};
 ghost use lib.ListN.{length};
@@ -11,14 +11,14 @@ ghost use Rattle.drafting.specs.LineLaws.{linesIn};
 ghost use Rattle.drafting.specs.BlockLaws.{heldEntry};
 ghost use Rattle.drafting.specs.Adding.{Adds};
 use crate::Block;
-use crate::entries::line_on;
+use crate::entries::write_line;
 use ledgers::USERS;
 use lines::Counts;
 use lines::Entry;
 use tables::name_at;
 
 // Writes the has line of a user and a role from a place on, if the user holds the role, and answers the place past it.
-fn held_on(
+fn write_has(
     out: &mut [u8],
     at: usize,
     ledger: &[u64],
@@ -34,11 +34,11 @@ fn held_on(
         return at;
     }
     let entry = Entry::Has(user, role);
-    line_on(out, at, ledger, c, entry)
+    write_line(out, at, ledger, c, entry)
 }
 
 // Writes the has lines of a user from a place on, in role order, and answers the place past them.
-fn has_on(out: &mut [u8], at: usize, ledger: &[u64], c: Counts, user: usize) -> usize
+fn write_held(out: &mut [u8], at: usize, ledger: &[u64], c: Counts, user: usize) -> usize
     requires { ⌜ (ledgerWords ≤ length (now ledger)) × Limited c × (user < c .users) × (at + length (linesIn (now ledger) c (element (ledgerSays (now ledger) c) Block.Has user)) ≤ length (now out)) ⌝ }
     ensures { λ r. ⌜ Adds (linesIn (now (ledger .entry)) c (element (ledgerSays (now (ledger .entry)) c) Block.Has user)) at (now (out .entry)) r (now (out .exit)) ⌝ }
 {
@@ -48,7 +48,7 @@ fn has_on(out: &mut [u8], at: usize, ledger: &[u64], c: Counts, user: usize) -> 
     let mut role = 0;
     while role < c.roles {
         let holds = held.has(role);
-        to = held_on(out, to, ledger, c, user, role, holds);
+        to = write_has(out, to, ledger, c, user, role, holds);
         role += 1;
     }
     to
@@ -69,7 +69,7 @@ fn block_size(c: Counts, block: Block) -> usize
 }
 
 // Writes the lines of a block's element from a place on, and answers the place past them.
-fn element_on(
+fn write_element(
     out: &mut [u8],
     at: usize,
     ledger: &[u64],
@@ -83,31 +83,31 @@ fn element_on(
     match block {
         Block::Roles => {
             let name = name_at(ledger, c.roles, place);
-            line_on(out, at, ledger, c, Entry::Role(name))
+            write_line(out, at, ledger, c, Entry::Role(name))
         }
         Block::Users => {
             let name = name_at(&ledger[USERS..], c.users, place);
             let user = ledgers::person(ledger, place);
-            line_on(out, at, ledger, c, Entry::User(name, user.clearance))
+            write_line(out, at, ledger, c, Entry::User(name, user.clearance))
         }
-        Block::Has => has_on(out, at, ledger, c, place),
+        Block::Has => write_held(out, at, ledger, c, place),
         Block::Assigns => {
             let rule = ledgers::assign(ledger, place);
-            line_on(out, at, ledger, c, Entry::Assign(rule))
+            write_line(out, at, ledger, c, Entry::Assign(rule))
         }
         Block::Revokes => {
             let rule = ledgers::revoke(ledger, place);
-            line_on(out, at, ledger, c, Entry::Revoke(rule))
+            write_line(out, at, ledger, c, Entry::Revoke(rule))
         }
         Block::Goals => {
             let goal = ledgers::goal(ledger, place);
-            line_on(out, at, ledger, c, Entry::Goal(goal))
+            write_line(out, at, ledger, c, Entry::Goal(goal))
         }
     }
 }
 
 // Writes the lines of a block from a place on, and answers the place past them.
-pub fn block_on(out: &mut [u8], at: usize, ledger: &[u64], c: Counts, block: Block) -> usize
+pub fn write_block(out: &mut [u8], at: usize, ledger: &[u64], c: Counts, block: Block) -> usize
     requires { ⌜ (ledgerWords ≤ length (now ledger)) × Limited c × (at + length (linesIn (now ledger) c (blockOf (ledgerSays (now ledger) c) block)) ≤ length (now out)) ⌝ }
     ensures { λ r. ⌜ Adds (linesIn (now (ledger .entry)) c (blockOf (ledgerSays (now (ledger .entry)) c) block)) at (now (out .entry)) r (now (out .exit)) ⌝ }
 {
@@ -115,7 +115,7 @@ pub fn block_on(out: &mut [u8], at: usize, ledger: &[u64], c: Counts, block: Blo
     let mut to = at;
     let mut place = 0;
     while place < size {
-        to = element_on(out, to, ledger, c, block, place);
+        to = write_element(out, to, ledger, c, block, place);
         place += 1;
     }
     to

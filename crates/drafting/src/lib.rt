@@ -6,8 +6,8 @@ ghost use Rattle.ledgers.specs.Ledger.{ledgerWords};
 ghost use Rattle.reading.specs.Ledger.{Limited, ledgerSays};
 ghost use Rattle.writing.specs.Written.{put};
 ghost use Rattle.drafting.specs.PolicyText.{policyText};
-use crate::blocks::block_on;
-use crate::entries::line_on;
+use crate::blocks::write_block;
+use crate::entries::write_line;
 use lines::Counts;
 use lines::Entry;
 
@@ -29,12 +29,12 @@ pub fn write_policy(out: &mut [u8], ledger: &[u64], c: Counts) -> usize
     requires { ⌜ (ledgerWords ≤ length (now ledger)) × Limited c × (length (policyText (ledgerSays (now ledger) c)) ≤ length (now out)) ⌝ }
     ensures { λ r. ⌜ (r ≡ length (policyText (ledgerSays (now (ledger .entry)) c))) × (now (out .exit) ≡ put (policyText (ledgerSays (now (ledger .entry)) c)) (now (out .entry))) ⌝ }
 {
-    let roles = line_on(out, 0, ledger, c, Entry::Header);
-    let users = block_on(out, roles, ledger, c, Block::Roles);
-    let has = block_on(out, users, ledger, c, Block::Users);
-    let assigns = block_on(out, has, ledger, c, Block::Has);
-    let revokes = block_on(out, assigns, ledger, c, Block::Assigns);
-    let goals = block_on(out, revokes, ledger, c, Block::Revokes);
-    let end = block_on(out, goals, ledger, c, Block::Goals);
-    line_on(out, end, ledger, c, Entry::End)
+    let roles = write_line(out, 0, ledger, c, Entry::Header);
+    let users = write_block(out, roles, ledger, c, Block::Roles);
+    let has = write_block(out, users, ledger, c, Block::Users);
+    let assigns = write_block(out, has, ledger, c, Block::Has);
+    let revokes = write_block(out, assigns, ledger, c, Block::Assigns);
+    let goals = write_block(out, revokes, ledger, c, Block::Revokes);
+    let end = write_block(out, goals, ledger, c, Block::Goals);
+    write_line(out, end, ledger, c, Entry::End)
 }

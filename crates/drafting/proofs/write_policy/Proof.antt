@@ -3,7 +3,9 @@ use Prim.Native.Nat.{_+_, _≤_}
 use lib.ListN.{length}
 use mathlib.Core.List.{[], _∷_}
 use native.Mathlib.Omega.{arith}
+use Rattle.ledgers.specs.Ledger.{ledgerWords}
 use Rattle.lines.specs.declared.Entry.{Entry}
+use Rattle.reading.specs.Ledger.{Limited}
 use Rattle.drafting.specs.declared.Block.{Block}
 use Rattle.drafting.specs.LineLaws.{linesIn}
 use Rattle.drafting.specs.BlockLaws.{blockIn, policy-text, policy-room}
@@ -11,53 +13,70 @@ use Rattle.drafting.specs.Adding.{adds-as, adds-both, adds-all}
 use Rattle.drafting.proofs.write_policy.Statement.{statement}
 use Rattle.drafting.proofs.write_policy.Tie as tie
 
+-- the header, the blocks and `end` fit
 fits : (c : tie.Start) →
     let words = c .args .ledger .now in
     let k = c .args .c in
     length (linesIn words k (Entry.Header ∷ [])) + length (blockIn words k Block.Roles) + length (blockIn words k Block.Users) + length (blockIn words k Block.Has) + length (blockIn words k Block.Assigns) + length (blockIn words k Block.Revokes) + length (blockIn words k Block.Goals) + length (linesIn words k (Entry.End ∷ [])) ≤ length (c .args .out .now)
 fits c = policy-room _ _ (c .pre .2)
 
-line-on-requires : tie.Need-line-on-requires
-line-on-requires c κs = (c .before .before .before .pre .0, c .before .before .before .pre .1, omega (arith, fits (c .before .before .before)))
+-- what each call asks beside its room
+ready : (c : tie.Start) {A : Type 0} → A → (ledgerWords ≤ length (c .args .ledger .now)) × Limited (c .args .c) × A
+ready c room = (c .pre .0, c .pre .1, room)
 
-block-on-requires : tie.Need-block-on-requires
-block-on-requires c κs = (c .before .before .before .before .before .before .before .pre .0, c .before .before .before .before .before .before .before .pre .1, omega (arith, fits (c .before .before .before .before .before .before .before)))
+write-line-requires : tie.Need-write-line-requires
+write-line-requires c κs = ready (c .before .before .before) (omega (arith, fits (c .before .before .before)))
 
-block-on-requires-2 : tie.Need-block-on-requires-2
-block-on-requires-2 c κs = (c .before .before .before .before .before .before .before .before .before .before .before .pre .0, c .before .before .before .before .before .before .before .before .before .before .before .pre .1, omega (arith, fits (c .before .before .before .before .before .before .before .before .before .before .before)))
+write-block-requires : tie.Need-write-block-requires
+write-block-requires c κs = ready (c .before .before .before .before .before .before .before) (omega (arith, fits (c .before .before .before .before .before .before .before)))
 
-block-on-requires-3 : tie.Need-block-on-requires-3
-block-on-requires-3 c κs = (c .before .before .before .before .before .before .before .before .before .before .before .before .before .before .before .pre .0, c .before .before .before .before .before .before .before .before .before .before .before .before .before .before .before .pre .1, omega (arith, fits (c .before .before .before .before .before .before .before .before .before .before .before .before .before .before .before)))
+write-block-requires-2 : tie.Need-write-block-requires-2
+write-block-requires-2 c κs = ready (c .before .before .before .before .before .before .before .before .before .before .before) (omega (arith, fits (c .before .before .before .before .before .before .before .before .before .before .before)))
 
-block-on-requires-4 : tie.Need-block-on-requires-4
-block-on-requires-4 c κs = (c .before .before .before .before .before .before .before .before .before .before .before .before .before .before .before .before .before .before .before .pre .0, c .before .before .before .before .before .before .before .before .before .before .before .before .before .before .before .before .before .before .before .pre .1, omega (arith, fits (c .before .before .before .before .before .before .before .before .before .before .before .before .before .before .before .before .before .before .before)))
+write-block-requires-3 : tie.Need-write-block-requires-3
+write-block-requires-3 c κs = ready (c .before .before .before .before .before .before .before .before .before .before .before .before .before .before .before) (omega (arith, fits (c .before .before .before .before .before .before .before .before .before .before .before .before .before .before .before)))
 
-block-on-requires-5 : tie.Need-block-on-requires-5
-block-on-requires-5 c κs = (c .before .before .before .before .before .before .before .before .before .before .before .before .before .before .before .before .before .before .before .before .before .before .before .pre .0, c .before .before .before .before .before .before .before .before .before .before .before .before .before .before .before .before .before .before .before .before .before .before .before .pre .1, omega (arith, fits (c .before .before .before .before .before .before .before .before .before .before .before .before .before .before .before .before .before .before .before .before .before .before .before)))
+write-block-requires-4 : tie.Need-write-block-requires-4
+write-block-requires-4 c κs = ready (c .before .before .before .before .before .before .before .before .before .before .before .before .before .before .before .before .before .before .before) (omega (arith, fits (c .before .before .before .before .before .before .before .before .before .before .before .before .before .before .before .before .before .before .before)))
 
-block-on-requires-6 : tie.Need-block-on-requires-6
-block-on-requires-6 c κs = (c .before .before .before .before .before .before .before .before .before .before .before .before .before .before .before .before .before .before .before .before .before .before .before .before .before .before .before .pre .0, c .before .before .before .before .before .before .before .before .before .before .before .before .before .before .before .before .before .before .before .before .before .before .before .before .before .before .before .pre .1, omega (arith, fits (c .before .before .before .before .before .before .before .before .before .before .before .before .before .before .before .before .before .before .before .before .before .before .before .before .before .before .before)))
+write-block-requires-5 : tie.Need-write-block-requires-5
+write-block-requires-5 c κs = ready (c .before .before .before .before .before .before .before .before .before .before .before .before .before .before .before .before .before .before .before .before .before .before .before) (omega (arith, fits (c .before .before .before .before .before .before .before .before .before .before .before .before .before .before .before .before .before .before .before .before .before .before .before)))
 
-line-on-requires-2 : tie.Need-line-on-requires-2
-line-on-requires-2 c κs = (c .before .before .before .before .before .before .before .before .before .before .before .before .before .before .before .before .before .before .before .before .before .before .before .before .before .before .before .before .before .before .before .pre .0, c .before .before .before .before .before .before .before .before .before .before .before .before .before .before .before .before .before .before .before .before .before .before .before .before .before .before .before .before .before .before .before .pre .1, omega (arith, fits (c .before .before .before .before .before .before .before .before .before .before .before .before .before .before .before .before .before .before .before .before .before .before .before .before .before .before .before .before .before .before .before), c .before .before .before .before .before .before .before .before .before .before .before .before .before .before .before .before .before .before .before .before .before .before .before .before .before .before .before .line-on .ensures .few, c .before .before .before .before .before .before .before .before .before .before .before .before .before .before .before .before .before .before .before .before .before .before .before .before .before .before .out .given, c .before .before .before .before .before .before .before .before .before .before .before .before .before .before .before .before .before .before .before .before .before .before .before .block-on .ensures .few, c .before .before .before .before .before .before .before .before .before .before .before .before .before .before .before .before .before .before .before .before .before .before .out2 .given))
+write-block-requires-6 : tie.Need-write-block-requires-6
+write-block-requires-6 c κs = ready (c .before .before .before .before .before .before .before .before .before .before .before .before .before .before .before .before .before .before .before .before .before .before .before .before .before .before .before) (omega (arith, fits (c .before .before .before .before .before .before .before .before .before .before .before .before .before .before .before .before .before .before .before .before .before .before .before .before .before .before .before)))
+
+write-line-requires-2 : tie.Need-write-line-requires-2
+write-line-requires-2 c κs = ready (c .before .before .before .before .before .before .before .before .before .before .before .before .before .before .before .before .before .before .before .before .before .before .before .before .before .before .before .before .before .before .before) (omega (arith, fits (c .before .before .before .before .before .before .before .before .before .before .before .before .before .before .before .before .before .before .before .before .before .before .before .before .before .before .before .before .before .before .before), c .before .before .before .before .before .before .before .before .before .before .before .before .before .before .before .before .before .before .before .before .before .before .before .before .before .before .before .write-line .ensures .few, c .before .before .before .before .before .before .before .before .before .before .before .before .before .before .before .before .before .before .before .before .before .before .before .before .before .before .out .given, c .before .before .before .before .before .before .before .before .before .before .before .before .before .before .before .before .before .before .before .before .before .before .before .write-block .ensures .few, c .before .before .before .before .before .before .before .before .before .before .before .before .before .before .before .before .before .before .before .before .before .before .out2 .given))
 
 same-length : tie.Need-same-length
 same-length c = omega (arith, c .before .before .before .before .before .before .before .before .before .before .before .before .before .before .before .before .before .before .before .before .before .before .before .before .before .before .before .before .before .out .given, c .before .before .before .before .before .before .before .before .before .before .before .before .before .before .before .before .before .before .before .before .before .before .before .before .before .out2 .given)
 
 returns : tie.Need-returns
-returns c = adds-all (adds-as (policy-text _ _) (adds-both (adds-both (adds-both (adds-both (adds-both (adds-both (adds-both (c .before .before .before .before .before .before .before .before .before .before .before .before .before .before .before .before .before .before .before .before .before .before .before .before .before .before .before .before .before .before .line-on .ensures) (c .before .before .before .before .before .before .before .before .before .before .before .before .before .before .before .before .before .before .before .before .before .before .before .before .before .before .block-on .ensures)) (c .before .before .before .before .before .before .before .before .before .before .before .before .before .before .before .before .before .before .before .before .before .before .block-on2 .ensures)) (c .before .before .before .before .before .before .before .before .before .before .before .before .before .before .before .before .before .before .block-on3 .ensures)) (c .before .before .before .before .before .before .before .before .before .before .before .before .before .before .block-on4 .ensures)) (c .before .before .before .before .before .before .before .before .before .before .block-on5 .ensures)) (c .before .before .before .before .before .before .block-on6 .ensures)) (c .before .before .line-on2 .ensures))) (c .before .before .before .before .before .before .before .before .before .before .before .before .before .before .before .before .before .before .before .before .before .before .before .before .before .before .before .before .before .before .before .before .before .before .pre .2)
+returns c =
+    let last = c .before .before in
+    let goals = last .before .before .before .before in
+    let revokes = goals .before .before .before .before in
+    let assigns = revokes .before .before .before .before in
+    let has = assigns .before .before .before .before in
+    let users = has .before .before .before .before in
+    let roles = users .before .before .before .before in
+    let first = roles .before .before .before .before in
+    let header-roles = adds-both (first .write-line .ensures) (roles .write-block .ensures) in
+    let to-has = adds-both (adds-both header-roles (users .write-block2 .ensures)) (has .write-block3 .ensures) in
+    let to-revokes = adds-both (adds-both to-has (assigns .write-block4 .ensures)) (revokes .write-block5 .ensures) in
+    adds-all (adds-as (policy-text _ _) (adds-both (adds-both to-revokes (goals .write-block6 .ensures)) (last .write-line2 .ensures))) (first .before .before .before .before .pre .2)
 
 pub write-policy-spec : {M : Type 1} → statement M
 write-policy-spec =
     tie.close
     (tie.spec
-    line-on-requires
-    block-on-requires
-    block-on-requires-2
-    block-on-requires-3
-    block-on-requires-4
-    block-on-requires-5
-    block-on-requires-6
-    line-on-requires-2
+    write-line-requires
+    write-block-requires
+    write-block-requires-2
+    write-block-requires-3
+    write-block-requires-4
+    write-block-requires-5
+    write-block-requires-6
+    write-line-requires-2
     same-length
     returns)

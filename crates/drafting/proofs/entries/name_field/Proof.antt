@@ -1,4 +1,4 @@
--- `name_on` puts a tab, and the name past it.
+-- `name_field` puts a tab, and the name past it.
 use Prim.Native.Nat.{_+_, _≤_}
 use borrow.Author.Needs.{needs}
 use lib.ListN.{length}
@@ -6,8 +6,8 @@ use native.Mathlib.Omega.{arith}
 use Rattle.writing.specs.Written.{spelled}
 use Rattle.showing.specs.Steps.{past-tab, field-room, field-length}
 use Rattle.drafting.specs.Adding.{field-size, adds-field}
-use Rattle.drafting.proofs.entries.name_on.Statement.{statement}
-use Rattle.drafting.proofs.entries.name_on.Tie as tie
+use Rattle.drafting.proofs.entries.name_field.Statement.{statement}
+use Rattle.drafting.proofs.entries.name_field.Tie as tie
 
 fits : (c : tie.Start) → c .args .at + (length (spelled (c .args .name)) + 1) ≤ length (c .args .out .now)
 fits c = omega (arith, c .pre, field-size (spelled (c .args .name)))
@@ -45,8 +45,8 @@ same-length c =
 returns : tie.Need-returns
 returns c = adds-field _ (c .before .before .write-name .ensures)
 
-pub name-on-spec : {M : Type 1} → statement M
-name-on-spec =
+pub name-field-spec : {M : Type 1} → statement M
+name-field-spec =
     tie.close
     (tie.spec
     slice-write-out

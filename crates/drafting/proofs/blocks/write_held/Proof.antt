@@ -1,8 +1,8 @@
--- `has_on` goes through the roles; the invariant: the lines of the roles passed are added.
+-- `write_held` goes through the roles; the invariant: the lines of the roles passed are added.
 use Prim.Native.Nat.{ℕ, _+_, _-_, _≤_}
 use borrow.Author.Needs.{needs}
 use lib.ListN.{length}
-use mathlib.Core.Path.{_≡_, refl, sym, ap, _∙_}
+use mathlib.Core.Path.{_≡_, refl, ap, _∙_}
 use native.Mathlib.Omega.{arith}
 use Rattle.roles.specs.Sets.{hasRole}
 use Rattle.model.specs.declared.Person.{Person}
@@ -12,8 +12,8 @@ use Rattle.drafting.specs.PolicyText.{element}
 use Rattle.drafting.specs.LineLaws.{linesIn}
 use Rattle.drafting.specs.BlockLaws.{heldEntry, heldBelow, held-start, held-grows, held-all}
 use Rattle.drafting.specs.Adding.{Adds, adds-none, adds-as, room-as, next-room, adds-next}
-use Rattle.drafting.proofs.blocks.has_on.Statement.{statement}
-use Rattle.drafting.proofs.blocks.has_on.Tie as tie
+use Rattle.drafting.proofs.blocks.write_held.Statement.{statement}
+use Rattle.drafting.proofs.blocks.write_held.Tie as tie
 
 abbrev Inv-loop : tie.InvT-loop
 Inv-loop out₀ at ledger c user held to₀ role₀ out to role = (role ≤ c .roles) × (length out ≡ length out₀) × Adds (linesIn ledger c (heldBelow user held role)) at out₀ to out
@@ -48,8 +48,8 @@ loop-holds c = (omega arith, refl, adds-as (held-start _ _ _ _) adds-none)
 has-requires : tie.Need-has-requires Inv-loop μ-loop
 has-requires c κs = search needs
 
-held-on-requires : tie.Need-held-on-requires Inv-loop μ-loop
-held-on-requires c κs =
+write-has-requires : tie.Need-write-has-requires Inv-loop μ-loop
+write-has-requires c κs =
     let loop = c .before .before .before .before in
     let start = c .before .before .before .before .before .before .before .before .before in
     (start .pre .0, start .pre .1, rw (c .before .has .ensures) (omega (arith, loop .loop .inv .1, loop .loop .inv .2 .few, piece-fits (c .before .before))))
@@ -63,7 +63,7 @@ loop-less c = omega arith
 loop-again : tie.Need-loop-again Inv-loop μ-loop
 loop-again c =
     let loop = c .before .before .before .before .before .before .before in
-    (omega arith, c .before .out .given ∙ loop .loop .inv .1, adds-next (held-grows _ _ _ _) (loop .loop .role) (loop .loop .inv .2) (rw (c .before .before .before .before .has .ensures) at (c .before .before .held-on .ensures)))
+    (omega arith, c .before .out .given ∙ loop .loop .inv .1, adds-next (held-grows _ _ _ _) (loop .loop .role) (loop .loop .inv .2) (rw (c .before .before .before .before .has .ensures) at (c .before .before .write-has .ensures)))
 
 same-length : tie.Need-same-length Inv-loop μ-loop
 same-length c = c .before .before .loop .inv .1
@@ -71,8 +71,8 @@ same-length c = c .before .before .loop .inv .1
 returns : tie.Need-returns Inv-loop μ-loop
 returns c = adds-as (all (c .before .before) (c .before .before .loop .inv .0) (c .if1 .left)) (c .before .before .loop .inv .2)
 
-pub has-on-spec : {M : Type 1} → statement M
-has-on-spec =
+pub write-held-spec : {M : Type 1} → statement M
+write-held-spec =
     tie.close
     (tie.spec
     Inv-loop
@@ -80,7 +80,7 @@ has-on-spec =
     person-requires
     loop-holds
     has-requires
-    held-on-requires
+    write-has-requires
     add-role
     loop-less
     loop-again

@@ -1,8 +1,8 @@
--- `bytes_on` puts the bytes into the rest of the buffer.
+-- `write_piece` puts the bytes into the rest of the buffer.
 use borrow.Author.Needs.{needs}
 use Rattle.drafting.specs.Adding.{adds-piece}
-use Rattle.drafting.proofs.entries.bytes_on.Statement.{statement}
-use Rattle.drafting.proofs.entries.bytes_on.Tie as tie
+use Rattle.drafting.proofs.entries.write_piece.Statement.{statement}
+use Rattle.drafting.proofs.entries.write_piece.Tie as tie
 
 sub-write-bytes : tie.Need-sub-write-bytes
 sub-write-bytes c = search needs
@@ -25,8 +25,8 @@ same-length c = search needs
 returns : tie.Need-returns
 returns c = adds-piece (c .before .before .write-bytes .ensures)
 
-pub bytes-on-spec : {M : Type 1} → statement M
-bytes-on-spec =
+pub write-piece-spec : {M : Type 1} → statement M
+write-piece-spec =
     tie.close
     (tie.spec
     sub-write-bytes

@@ -1,4 +1,4 @@
--- `block_on` goes through the elements; the invariant: the lines of the elements passed are added.
+-- `write_block` goes through the elements; the invariant: the lines of the elements passed are added.
 use Prim.Native.Nat.{_+_, _-_, _≤_}
 use borrow.Author.Needs.{needs}
 use lib.ListN.{length}
@@ -9,8 +9,8 @@ use Rattle.drafting.specs.PolicyText.{element, firstOf}
 use Rattle.drafting.specs.LineLaws.{linesIn}
 use Rattle.drafting.specs.BlockLaws.{first-start, first-grows, first-all}
 use Rattle.drafting.specs.Adding.{Adds, adds-none, adds-as, room-as, next-room, adds-next}
-use Rattle.drafting.proofs.blocks.block_on.Statement.{statement}
-use Rattle.drafting.proofs.blocks.block_on.Tie as tie
+use Rattle.drafting.proofs.blocks.write_block.Statement.{statement}
+use Rattle.drafting.proofs.blocks.write_block.Tie as tie
 
 abbrev Inv-loop : tie.InvT-loop
 Inv-loop out₀ at ledger c block size to₀ place₀ out to place = (place ≤ size) × (length out ≡ length out₀) × Adds (linesIn ledger c (firstOf (ledgerSays ledger c) block place)) at out₀ to out
@@ -36,8 +36,8 @@ block-size-requires c κs = search needs
 loop-holds : tie.Need-loop-holds Inv-loop μ-loop
 loop-holds c = (omega arith, refl, adds-as (first-start _ _ _) adds-none)
 
-element-on-requires : tie.Need-element-on-requires Inv-loop μ-loop
-element-on-requires c κs =
+write-element-requires : tie.Need-write-element-requires Inv-loop μ-loop
+write-element-requires c κs =
     let loop = c .before .before in
     let start = c .before .before .before .before .before .before in
     (start .pre .0, start .pre .1, omega (arith, c .before .loop-test .taken, c .before .before .before .block-size .ensures (start .args .ledger .now)), omega (arith, loop .loop .inv .1, loop .loop .inv .2 .few, piece-fits (c .before)))
@@ -51,7 +51,7 @@ loop-less c = omega arith
 loop-again : tie.Need-loop-again Inv-loop μ-loop
 loop-again c =
     let loop = c .before .before .before .before .before in
-    (omega arith, c .before .out .given ∙ loop .loop .inv .1, adds-next (first-grows _ _ _) (loop .loop .place) (loop .loop .inv .2) (c .before .before .element-on .ensures))
+    (omega arith, c .before .out .given ∙ loop .loop .inv .1, adds-next (first-grows _ _ _) (loop .loop .place) (loop .loop .inv .2) (c .before .before .write-element .ensures))
 
 same-length : tie.Need-same-length Inv-loop μ-loop
 same-length c = c .before .loop .inv .1
@@ -59,15 +59,15 @@ same-length c = c .before .loop .inv .1
 returns : tie.Need-returns Inv-loop μ-loop
 returns c = adds-as (first-all _ _ _ (c .before .before .block-size .ensures _) (c .before .loop .inv .0) (c .loop-test .left)) (c .before .loop .inv .2)
 
-pub block-on-spec : {M : Type 1} → statement M
-block-on-spec =
+pub write-block-spec : {M : Type 1} → statement M
+write-block-spec =
     tie.close
     (tie.spec
     Inv-loop
     μ-loop
     block-size-requires
     loop-holds
-    element-on-requires
+    write-element-requires
     add-place
     loop-less
     loop-again

@@ -1,4 +1,4 @@
--- `set_on` puts a tab, and the set past it.
+-- `set_field` puts a tab, and the set past it.
 use Prim.Native.Nat.{_+_, _≤_}
 use borrow.Author.Needs.{needs}
 use lib.ListN.{length}
@@ -7,8 +7,8 @@ use Rattle.tables.specs.Names.{rows}
 use Rattle.spelling.specs.TypingText.{setText}
 use Rattle.showing.specs.Steps.{past-tab, field-room, field-length}
 use Rattle.drafting.specs.Adding.{field-size, adds-field}
-use Rattle.drafting.proofs.entries.set_on.Statement.{statement}
-use Rattle.drafting.proofs.entries.set_on.Tie as tie
+use Rattle.drafting.proofs.entries.set_field.Statement.{statement}
+use Rattle.drafting.proofs.entries.set_field.Tie as tie
 
 fits : (c : tie.Start) → c .args .at + (length (setText (rows (c .args .count) (c .args .roles .now)) (c .args .set)) + 1) ≤ length (c .args .out .now)
 fits c = omega (arith, c .pre, field-size (setText (rows (c .args .count) (c .args .roles .now)) (c .args .set)))
@@ -46,8 +46,8 @@ same-length c =
 returns : tie.Need-returns
 returns c = adds-field _ (c .before .before .write-set .ensures)
 
-pub set-on-spec : {M : Type 1} → statement M
-set-on-spec =
+pub set-field-spec : {M : Type 1} → statement M
+set-field-spec =
     tie.close
     (tie.spec
     slice-write-out
