@@ -63,7 +63,7 @@ fn set_length(roles: &[u64], count: usize, set: RoleSet) -> usize
 }
 
 // Puts the text of a set at the start of a buffer, and answers how many bytes it has.
-fn write_set(out: &mut [u8], roles: &[u64], count: usize, set: RoleSet) -> usize
+pub fn write_set(out: &mut [u8], roles: &[u64], count: usize, set: RoleSet) -> usize
     requires { ⌜ (4 * count ≤ length (now roles)) × (count ≤ 128) × (length (setText (rows count (now roles)) set) ≤ length (now out)) ⌝ }
     ensures { λ r. ⌜ (r ≡ length (setText (rows count (now (roles .entry))) set)) × (now (out .exit) ≡ put (setText (rows count (now (roles .entry))) set) (now (out .entry))) ⌝ }
 {
