@@ -12,7 +12,7 @@ use Rattle.roles.specs.Sets.{hasRole, emptySet}
 use Rattle.model.specs.declared.Assign.{Assign}
 use Rattle.model.specs.declared.Revoke.{Revoke}
 use Rattle.model.specs.declared.Person.{Person}
-use Rattle.model.specs.Policy.{person, nobody}
+use Rattle.model.specs.Policy.{noAssign, noRevoke, person, nobody}
 use Rattle.text.specs.Forms.{bytes}
 use Rattle.tables.specs.declared.Name.{Name}
 use Rattle.tables.specs.Names.{nameAt, rows}
@@ -26,7 +26,7 @@ use Rattle.reading.specs.Ledger.{ledgerSays}
 use Rattle.writing.specs.Buffers.{from}
 use Rattle.spelling.specs.Growth.{Grows}
 use Rattle.drafting.specs.declared.Block.{Block}
-use Rattle.drafting.specs.PolicyText.{lineText, linesText, heldFrom, noAssign, noRevoke, blockSize, element, firstOf, blockOf, entriesOf, policyText}
+use Rattle.drafting.specs.PolicyText.{lineText, linesText, heldFrom, blockSize, element, firstOf, blockOf, entriesOf, policyText}
 use Rattle.drafting.specs.LineLaws.{linesIn, lines-none}
 
 -- ---- lines that grow
