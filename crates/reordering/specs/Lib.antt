@@ -1,2 +1,3 @@
 -- Policy texts that differ in the order of has lines and of names inside sets.
 pub mod Alike
+pub mod Orders
