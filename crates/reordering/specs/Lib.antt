@@ -1,3 +1,4 @@
 -- Policy texts that differ in the order of has lines and of names inside sets.
 pub mod Alike
 pub mod Orders
+pub mod FieldsSame
