@@ -2,3 +2,4 @@
 pub mod Alike
 pub mod Orders
 pub mod FieldsSame
+pub mod LinesSame
