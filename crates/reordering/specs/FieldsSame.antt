@@ -1,8 +1,7 @@
 -- Two fields of the same names in some order: each is as long, a name or a set where the other is, and says the same.
 use Prim.Native.Nat.{ℕ, suc, _+_}
-use mathlib.Core.Bool.{Bool, true, false, cond, not, _&&_, _||_, false≢true, or-eq-true-iff}
+use mathlib.Core.Bool.{Bool, true, false, cond, not, _&&_, _||_}
 use mathlib.Core.List.{List, [], _∷_}
-use mathlib.Core.Logic.{_⊎_, inl, inr}
 use mathlib.Core.Path.{_≡_, refl, sym, ap, ap₂, subst, _∙_}
 use lib.Dec.{eqb}
 use lib.ListN.{length}
@@ -11,7 +10,7 @@ use Rattle.roles.specs.declared.RoleSet.{RoleSet}
 use Rattle.roles.specs.Sets.{emptySet, singleOf, unionOf, withOf}
 use Rattle.roles.specs.MemberLaws.{union-assoc, union-comm}
 use Rattle.text.specs.Forms.{bytes, every, between, nameByte, isName, isSet, isLabel, namesOf}
-use Rattle.text.specs.Pieces.{split, onto, sameBytes, repeated}
+use Rattle.text.specs.Pieces.{split, onto, sameBytes}
 use Rattle.text.specs.PieceLaws.{same-equal, split-piece}
 use Rattle.tables.specs.declared.Name.{Name}
 use Rattle.fields.specs.Fields.{placed, isDeclared, allDeclared, rolesFrom, rolesOf}

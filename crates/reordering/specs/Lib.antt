@@ -3,3 +3,7 @@ pub mod Alike
 pub mod Orders
 pub mod FieldsSame
 pub mod LinesSame
+pub mod Grants
+pub mod HeldSame
+pub mod Leading
+pub mod Same

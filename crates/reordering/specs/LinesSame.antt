@@ -2,17 +2,16 @@
 use Prim.Native.Nat.{ℕ}
 use mathlib.Core.Bool.{Bool, true, false, cond, not, _&&_, and-false}
 use mathlib.Core.List.{List, [], _∷_, _++_}
-use mathlib.Core.Path.{_≡_, refl, sym, ap, ap₂, subst, _∙_}
+use mathlib.Core.Path.{_≡_, refl, sym, ap, subst, _∙_}
 use lib.Dec.{eqb, ltb}
 use lib.ListN.{length}
 use native.Mathlib.Omega.{arith}
-use Rattle.roles.specs.declared.RoleSet.{RoleSet}
 use Rattle.model.specs.Policy.{assigning}
 use Rattle.text.specs.Forms.{bytes, every, isName, isSet, isLabel}
-use Rattle.text.specs.Pieces.{split, sameBytes}
+use Rattle.text.specs.Pieces.{sameBytes}
 use Rattle.tables.specs.declared.Name.{Name}
 use Rattle.tables.specs.Names.{packed}
-use Rattle.fields.specs.Fields.{placed, isDeclared, allDeclared, rolesOf}
+use Rattle.fields.specs.Fields.{placed, isDeclared}
 use Rattle.walking.specs.Texts.{Judged, bad}
 use Rattle.walking.specs.Turns.{test, inTurn}
 use Rattle.lines.specs.declared.Counts.{Counts}

@@ -1,9 +1,8 @@
 -- Elements in some order, and elements each like the one at its place: what stays the same.
 use Prim.Native.Nat.{ℕ, suc, _+_}
 use mathlib.Core.Bool.{Bool, true, false, _&&_, _||_}
-use mathlib.Core.List.{List, [], _∷_, _++_, List·Memᴰ as Listed, List·Memᴰ·head as front, List·Memᴰ·tail as later, List·Memᴰ·not-nil as not-nil, List·Memᴰ·cases-cons as cases-cons}
-use mathlib.Core.Logic.{_⊎_, inl, inr}
-use mathlib.Core.Path.{_≡_, refl, sym, ap, ap₂, subst, _∙_}
+use mathlib.Core.List.{List, [], _∷_, _++_, List·Memᴰ as Listed, List·Memᴰ·head as front, List·Memᴰ·tail as later, List·Memᴰ·not-nil as not-nil}
+use mathlib.Core.Path.{_≡_, refl, sym, ap, ap₂, _∙_}
 use lib.ListN.{length}
 use native.Mathlib.Omega.{arith}
 use Rattle.text.specs.Forms.{every}
