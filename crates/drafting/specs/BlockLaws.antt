@@ -26,8 +26,9 @@ use Rattle.reading.specs.Ledger.{ledgerSays}
 use Rattle.writing.specs.Buffers.{from}
 use Rattle.spelling.specs.Growth.{Grows}
 use Rattle.drafting.specs.declared.Block.{Block}
-use Rattle.drafting.specs.PolicyText.{lineText, linesText, heldFrom, blockSize, element, firstOf, blockOf, entriesOf, policyText}
-use Rattle.drafting.specs.LineLaws.{linesIn, lines-none}
+use Rattle.inscribing.specs.LineText.{lineText, linesText}
+use Rattle.drafting.specs.PolicyText.{heldFrom, blockSize, element, firstOf, blockOf, entriesOf, policyText}
+use Rattle.inscribing.specs.LineLaws.{linesIn, lines-none}
 
 -- ---- lines that grow
 

@@ -7,12 +7,11 @@ ghost use Rattle.reading.specs.Ledger.{Limited, ledgerSays};
 ghost use Rattle.writing.specs.Written.{put};
 ghost use Rattle.drafting.specs.PolicyText.{policyText};
 use crate::blocks::write_block;
-use crate::entries::write_line;
+use inscribing::write_line;
 use lines::Counts;
 use lines::Entry;
 
 pub mod blocks;
-pub mod entries;
 
 // A block of lines: those of one kind.
 pub enum Block {

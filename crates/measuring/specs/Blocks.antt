@@ -14,7 +14,8 @@ use Rattle.lines.specs.declared.Entry.{Entry}
 use Rattle.reading.specs.Policy.{Said}
 use Rattle.showing.specs.Fields.{field}
 use Rattle.drafting.specs.declared.Block.{Block}
-use Rattle.drafting.specs.PolicyText.{lineText, linesText, heldFrom, blockSize, element, firstOf, blockOf, entriesOf, policyText}
+use Rattle.inscribing.specs.LineText.{lineText, linesText}
+use Rattle.drafting.specs.PolicyText.{heldFrom, blockSize, element, firstOf, blockOf, entriesOf, policyText}
 use Rattle.measuring.specs.Sums.{sumFrom, sum-last}
 
 -- ---- lines one after another

@@ -24,7 +24,8 @@ use Rattle.text.specs.Forms.{bytes}
 use Rattle.writing.specs.Written.{spelled}
 use Rattle.showing.specs.Fields.{field}
 use Rattle.drafting.specs.declared.Block.{Block}
-use Rattle.drafting.specs.PolicyText.{lineText, linesText, heldFrom, blockSize, element}
+use Rattle.inscribing.specs.LineText.{lineText, linesText}
+use Rattle.drafting.specs.PolicyText.{heldFrom, blockSize, element}
 use Rattle.measuring.specs.Sums.{sumFrom, sum-last, sum-same, sum-none, sum-more, weight, weight-none, weight-with}
 use Rattle.measuring.specs.Blocks.{lineSize, linesSize, lines-one, held-size, elementSize, blockLength, blocksLength}
 

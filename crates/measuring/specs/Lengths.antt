@@ -24,7 +24,8 @@ use Rattle.reading.specs.PolicyExact.{end-bytes, good-exact, policy-read-exact}
 use Rattle.reading.specs.Sound.{Sound, line-sound, nothing-sound}
 use Rattle.reading.specs.Answer.{line-leads}
 use Rattle.showing.specs.Fields.{field}
-use Rattle.drafting.specs.PolicyText.{lineText, blockSize, element, policyText}
+use Rattle.inscribing.specs.LineText.{lineText}
+use Rattle.drafting.specs.PolicyText.{blockSize, element, policyText}
 use Rattle.measuring.specs.Sums.{sumFrom}
 use Rattle.measuring.specs.Lines.{line-length}
 use Rattle.measuring.specs.Blocks.{lineSize, blocksLength, text-size}

@@ -26,7 +26,7 @@ use Rattle.showing.specs.Fields.{field}
 use Rattle.spelling.specs.TypingText.{setText, labelText}
 use Rattle.spelt.specs.Lines.{parted}
 use Rattle.spelt.specs.LinesExact.{fields-parted}
-use Rattle.drafting.specs.PolicyText.{lineText}
+use Rattle.inscribing.specs.LineText.{lineText}
 use Rattle.measuring.specs.Sets.{at-place, set-length}
 
 -- a label has one byte

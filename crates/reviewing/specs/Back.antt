@@ -11,7 +11,8 @@ use Rattle.lines.specs.declared.Entry.{Entry}
 use Rattle.lines.specs.Lines.{goalKind}
 use Rattle.reading.specs.Policy.{Said, nothing, judgeLine, readPolicy}
 use Rattle.reading.specs.Sound.{read-sound}
-use Rattle.drafting.specs.PolicyText.{lineText, linesText, entriesOf, policyText}
+use Rattle.inscribing.specs.LineText.{lineText, linesText}
+use Rattle.drafting.specs.PolicyText.{entriesOf, policyText}
 use Rattle.rereading.specs.Back.{line-ends}
 use Rattle.reviewing.specs.Lines.{end-free, end-ends}
 use Rattle.reviewing.specs.Runs.{goods-read}

@@ -29,7 +29,7 @@ use Rattle.reading.specs.Sound.{AssignOver, RevokeOver}
 use Rattle.writing.specs.Written.{spelled}
 use Rattle.showing.specs.Fields.{field}
 use Rattle.spelling.specs.TypingText.{setText, labelText}
-use Rattle.drafting.specs.PolicyText.{lineText}
+use Rattle.inscribing.specs.LineText.{lineText}
 use Rattle.rereading.specs.Cuts.{free, free-name}
 use Rattle.rereading.specs.Joined.{Apart}
 use Rattle.rereading.specs.Standing.{spelled-form, spelled-back, spelled-placed}

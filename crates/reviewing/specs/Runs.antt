@@ -10,7 +10,7 @@ use Rattle.walking.specs.Texts.{Reading, readLines}
 use Rattle.lines.specs.declared.Entry.{Entry}
 use Rattle.lines.specs.Lines.{headerKind}
 use Rattle.reading.specs.Policy.{Said, atStage, added, judgeLine}
-use Rattle.drafting.specs.PolicyText.{lineText, linesText}
+use Rattle.inscribing.specs.LineText.{lineText, linesText}
 use Rattle.rereading.specs.Back.{line-goes}
 use Rattle.reviewing.specs.Lines.{Taken, Ready}
 

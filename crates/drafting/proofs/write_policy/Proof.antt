@@ -7,9 +7,9 @@ use Rattle.ledgers.specs.Ledger.{ledgerWords}
 use Rattle.lines.specs.declared.Entry.{Entry}
 use Rattle.reading.specs.Ledger.{Limited}
 use Rattle.drafting.specs.declared.Block.{Block}
-use Rattle.drafting.specs.LineLaws.{linesIn}
+use Rattle.inscribing.specs.LineLaws.{linesIn}
 use Rattle.drafting.specs.BlockLaws.{blockIn, policy-text, policy-room}
-use Rattle.drafting.specs.Adding.{adds-as, adds-both, adds-all}
+use Rattle.inscribing.specs.Adding.{adds-as, adds-both, adds-all}
 use Rattle.drafting.proofs.write_policy.Statement.{statement}
 use Rattle.drafting.proofs.write_policy.Tie as tie
 

@@ -6,9 +6,9 @@ use mathlib.Core.Path.{_≡_, refl, _∙_}
 use native.Mathlib.Omega.{arith}
 use Rattle.reading.specs.Ledger.{ledgerSays}
 use Rattle.drafting.specs.PolicyText.{element, firstOf}
-use Rattle.drafting.specs.LineLaws.{linesIn}
+use Rattle.inscribing.specs.LineLaws.{linesIn}
 use Rattle.drafting.specs.BlockLaws.{first-start, first-grows, first-all}
-use Rattle.drafting.specs.Adding.{Adds, adds-none, adds-as, room-as, next-room, adds-next}
+use Rattle.inscribing.specs.Adding.{Adds, adds-none, adds-as, room-as, next-room, adds-next}
 use Rattle.drafting.proofs.blocks.write_block.Statement.{statement}
 use Rattle.drafting.proofs.blocks.write_block.Tie as tie
 

@@ -2,9 +2,9 @@
 use borrow.Author.Needs.{needs}
 use mathlib.Core.Path.{ap}
 use native.Mathlib.Omega.{arith}
-use Rattle.drafting.specs.LineLaws.{linesIn}
+use Rattle.inscribing.specs.LineLaws.{linesIn}
 use Rattle.drafting.specs.BlockLaws.{user-below, holder-below, assign-below, revoke-below, goal-below, role-element, user-element, has-element, assign-element, revoke-element, goal-element}
-use Rattle.drafting.specs.Adding.{adds-as, room-as}
+use Rattle.inscribing.specs.Adding.{adds-as, room-as}
 use Rattle.drafting.proofs.blocks.write_element.Statement.{statement}
 use Rattle.drafting.proofs.blocks.write_element.Tie as tie
 

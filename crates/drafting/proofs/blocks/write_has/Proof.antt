@@ -2,9 +2,9 @@
 use borrow.Author.Needs.{needs}
 use borrow.Author.Tests.{not-true, not-false}
 use mathlib.Core.Path.{ap, _∙_}
-use Rattle.drafting.specs.LineLaws.{linesIn, lines-none}
+use Rattle.inscribing.specs.LineLaws.{linesIn, lines-none}
 use Rattle.drafting.specs.BlockLaws.{held-entry, held-none}
-use Rattle.drafting.specs.Adding.{adds-none, adds-as, room-as}
+use Rattle.inscribing.specs.Adding.{adds-none, adds-as, room-as}
 use Rattle.drafting.proofs.blocks.write_has.Statement.{statement}
 use Rattle.drafting.proofs.blocks.write_has.Tie as tie
 

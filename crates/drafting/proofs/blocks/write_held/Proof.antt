@@ -9,9 +9,9 @@ use Rattle.model.specs.declared.Person.{Person}
 use Rattle.reading.specs.Ledger.{ledgerSays}
 use Rattle.drafting.specs.declared.Block.{Block}
 use Rattle.drafting.specs.PolicyText.{element}
-use Rattle.drafting.specs.LineLaws.{linesIn}
+use Rattle.inscribing.specs.LineLaws.{linesIn}
 use Rattle.drafting.specs.BlockLaws.{heldEntry, heldBelow, held-start, held-grows, held-all}
-use Rattle.drafting.specs.Adding.{Adds, adds-none, adds-as, room-as, next-room, adds-next}
+use Rattle.inscribing.specs.Adding.{Adds, adds-none, adds-as, room-as, next-room, adds-next}
 use Rattle.drafting.proofs.blocks.write_held.Statement.{statement}
 use Rattle.drafting.proofs.blocks.write_held.Tie as tie
 

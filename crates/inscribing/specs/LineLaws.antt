@@ -19,7 +19,7 @@ use Rattle.showing.specs.Fields.{field}
 use Rattle.spelling.specs.TypingText.{setText, labelText}
 use Rattle.lines.specs.declared.Counts.{Counts}
 use Rattle.reading.specs.Ledger.{ledgerSays}
-use Rattle.drafting.specs.PolicyText.{lineText, linesText}
+use Rattle.inscribing.specs.LineText.{lineText, linesText}
 
 -- The line of an entry without its LF, and the lines of entries, over the names of a ledger.
 unfoldable pub lineIn : List ℕ → Counts → Entry → List ℕ

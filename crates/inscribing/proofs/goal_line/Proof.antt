@@ -7,10 +7,10 @@ use Rattle.text.specs.Forms.{bytes}
 use Rattle.tables.specs.Names.{rows}
 use Rattle.showing.specs.Fields.{field}
 use Rattle.spelling.specs.TypingText.{setText}
-use Rattle.drafting.specs.PolicyText.{lineText}
-use Rattle.drafting.specs.Adding.{both-room, adds-both}
-use Rattle.drafting.proofs.entries.goal_line.Statement.{statement}
-use Rattle.drafting.proofs.entries.goal_line.Tie as tie
+use Rattle.inscribing.specs.LineText.{lineText}
+use Rattle.inscribing.specs.Adding.{both-room, adds-both}
+use Rattle.inscribing.proofs.goal_line.Statement.{statement}
+use Rattle.inscribing.proofs.goal_line.Tie as tie
 
 fits : (c : tie.Start) → c .args .at + 4 + length (field (setText (rows (c .args .count) (c .args .roles .now)) (c .args .goal))) ≤ length (c .args .out .now)
 unfolding lineText

@@ -6,9 +6,9 @@ use mathlib.Core.List.{_++_}
 use native.Mathlib.Omega.{arith}
 use Rattle.writing.specs.Written.{spelled}
 use Rattle.showing.specs.Fields.{field}
-use Rattle.drafting.specs.Adding.{both-room, adds-both}
-use Rattle.drafting.proofs.entries.pair_line.Statement.{statement}
-use Rattle.drafting.proofs.entries.pair_line.Tie as tie
+use Rattle.inscribing.specs.Adding.{both-room, adds-both}
+use Rattle.inscribing.proofs.pair_line.Statement.{statement}
+use Rattle.inscribing.proofs.pair_line.Tie as tie
 
 fits : (c : tie.Start) → c .args .at + length (c .args .word .now ++ field (spelled (c .args .first))) + length (field (spelled (c .args .second))) ≤ length (c .args .out .now)
 fits c = both-room (c .args .at) (c .args .word .now ++ field (spelled (c .args .first))) (field (spelled (c .args .second))) (c .pre)

@@ -6,9 +6,9 @@ use native.Mathlib.Omega.{arith}
 use Rattle.tables.specs.Names.{rows}
 use Rattle.spelling.specs.TypingText.{setText}
 use Rattle.showing.specs.Steps.{past-tab, field-room, field-length}
-use Rattle.drafting.specs.Adding.{field-size, adds-field}
-use Rattle.drafting.proofs.entries.set_field.Statement.{statement}
-use Rattle.drafting.proofs.entries.set_field.Tie as tie
+use Rattle.inscribing.specs.Adding.{field-size, adds-field}
+use Rattle.inscribing.proofs.set_field.Statement.{statement}
+use Rattle.inscribing.proofs.set_field.Tie as tie
 
 fits : (c : tie.Start) → c .args .at + (length (setText (rows (c .args .count) (c .args .roles .now)) (c .args .set)) + 1) ≤ length (c .args .out .now)
 fits c = omega (arith, c .pre, field-size (setText (rows (c .args .count) (c .args .roles .now)) (c .args .set)))

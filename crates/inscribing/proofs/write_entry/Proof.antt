@@ -1,10 +1,10 @@
 -- `write_entry` goes by the kind of the entry; each line is written in its own pieces, by the names that stand in the ledger.
 use borrow.Author.Needs.{needs}
 use native.Mathlib.Omega.{arith}
-use Rattle.drafting.specs.LineLaws.{header-in, role-in, user-in, has-in, assign-in, revoke-in, goal-in, end-in}
-use Rattle.drafting.specs.Adding.{adds-as, room-as}
-use Rattle.drafting.proofs.entries.write_entry.Statement.{statement}
-use Rattle.drafting.proofs.entries.write_entry.Tie as tie
+use Rattle.inscribing.specs.LineLaws.{header-in, role-in, user-in, has-in, assign-in, revoke-in, goal-in, end-in}
+use Rattle.inscribing.specs.Adding.{adds-as, room-as}
+use Rattle.inscribing.proofs.write_entry.Statement.{statement}
+use Rattle.inscribing.proofs.write_entry.Tie as tie
 
 enum-told : tie.Need-enum-told
 enum-told c = search needs

@@ -5,9 +5,9 @@ use lib.ListN.{length}
 use native.Mathlib.Omega.{arith}
 use Rattle.writing.specs.Written.{spelled}
 use Rattle.showing.specs.Fields.{field}
-use Rattle.drafting.specs.Adding.{both-room, adds-both}
-use Rattle.drafting.proofs.entries.named_line.Statement.{statement}
-use Rattle.drafting.proofs.entries.named_line.Tie as tie
+use Rattle.inscribing.specs.Adding.{both-room, adds-both}
+use Rattle.inscribing.proofs.named_line.Statement.{statement}
+use Rattle.inscribing.proofs.named_line.Tie as tie
 
 fits : (c : tie.Start) → c .args .at + length (c .args .word .now) + length (field (spelled (c .args .name))) ≤ length (c .args .out .now)
 fits c = both-room (c .args .at) (c .args .word .now) (field (spelled (c .args .name))) (c .pre)

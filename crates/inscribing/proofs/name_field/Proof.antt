@@ -5,9 +5,9 @@ use lib.ListN.{length}
 use native.Mathlib.Omega.{arith}
 use Rattle.writing.specs.Written.{spelled}
 use Rattle.showing.specs.Steps.{past-tab, field-room, field-length}
-use Rattle.drafting.specs.Adding.{field-size, adds-field}
-use Rattle.drafting.proofs.entries.name_field.Statement.{statement}
-use Rattle.drafting.proofs.entries.name_field.Tie as tie
+use Rattle.inscribing.specs.Adding.{field-size, adds-field}
+use Rattle.inscribing.proofs.name_field.Statement.{statement}
+use Rattle.inscribing.proofs.name_field.Tie as tie
 
 fits : (c : tie.Start) → c .args .at + (length (spelled (c .args .name)) + 1) ≤ length (c .args .out .now)
 fits c = omega (arith, c .pre, field-size (spelled (c .args .name)))

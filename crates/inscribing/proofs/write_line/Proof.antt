@@ -5,10 +5,10 @@ use lib.ListN.{length}
 use mathlib.Core.Path.{ap}
 use native.Mathlib.Omega.{arith}
 use Rattle.text.specs.Forms.{bytes}
-use Rattle.drafting.specs.LineLaws.{lineIn, line-in}
-use Rattle.drafting.specs.Adding.{both-room, adds-as, adds-both}
-use Rattle.drafting.proofs.entries.write_line.Statement.{statement}
-use Rattle.drafting.proofs.entries.write_line.Tie as tie
+use Rattle.inscribing.specs.LineLaws.{lineIn, line-in}
+use Rattle.inscribing.specs.Adding.{both-room, adds-as, adds-both}
+use Rattle.inscribing.proofs.write_line.Statement.{statement}
+use Rattle.inscribing.proofs.write_line.Tie as tie
 
 fits : (c : tie.Start) → c .args .at + length (lineIn (c .args .ledger .now) (c .args .c) (c .args .entry)) + 1 ≤ length (c .args .out .now)
 fits c = both-room (c .args .at) (lineIn (c .args .ledger .now) (c .args .c) (c .args .entry)) (bytes "\n") (omega (arith, c .pre .2, ap length (line-in (c .args .ledger .now) (c .args .c) (c .args .entry))))

@@ -1,8 +1,8 @@
 -- `write_piece` puts the bytes into the rest of the buffer.
 use borrow.Author.Needs.{needs}
-use Rattle.drafting.specs.Adding.{adds-piece}
-use Rattle.drafting.proofs.entries.write_piece.Statement.{statement}
-use Rattle.drafting.proofs.entries.write_piece.Tie as tie
+use Rattle.inscribing.specs.Adding.{adds-piece}
+use Rattle.inscribing.proofs.write_piece.Statement.{statement}
+use Rattle.inscribing.proofs.write_piece.Tie as tie
 
 sub-write-bytes : tie.Need-sub-write-bytes
 sub-write-bytes c = search needs

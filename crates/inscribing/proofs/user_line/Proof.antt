@@ -8,11 +8,11 @@ use Rattle.text.specs.Forms.{bytes}
 use Rattle.writing.specs.Written.{spelled}
 use Rattle.showing.specs.Fields.{field}
 use Rattle.spelling.specs.TypingText.{labelText}
-use Rattle.drafting.specs.PolicyText.{lineText}
-use Rattle.drafting.specs.LineLaws.{label-length}
-use Rattle.drafting.specs.Adding.{both-room, adds-as, adds-both}
-use Rattle.drafting.proofs.entries.user_line.Statement.{statement}
-use Rattle.drafting.proofs.entries.user_line.Tie as tie
+use Rattle.inscribing.specs.LineText.{lineText}
+use Rattle.inscribing.specs.LineLaws.{label-length}
+use Rattle.inscribing.specs.Adding.{both-room, adds-as, adds-both}
+use Rattle.inscribing.proofs.user_line.Statement.{statement}
+use Rattle.inscribing.proofs.user_line.Tie as tie
 
 fits : (c : tie.Start) → c .args .at + length (bytes "user" ++ field (spelled (c .args .name))) + 2 ≤ length (c .args .out .now)
 unfolding lineText

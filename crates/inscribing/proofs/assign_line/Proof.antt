@@ -9,10 +9,10 @@ use Rattle.tables.specs.Names.{rows}
 use Rattle.writing.specs.Written.{spelled}
 use Rattle.showing.specs.Fields.{field}
 use Rattle.spelling.specs.TypingText.{setText}
-use Rattle.drafting.specs.LineLaws.{assign-text, assign-room}
-use Rattle.drafting.specs.Adding.{adds-as, adds-both}
-use Rattle.drafting.proofs.entries.assign_line.Statement.{statement}
-use Rattle.drafting.proofs.entries.assign_line.Tie as tie
+use Rattle.inscribing.specs.LineLaws.{assign-text, assign-room}
+use Rattle.inscribing.specs.Adding.{adds-as, adds-both}
+use Rattle.inscribing.proofs.assign_line.Statement.{statement}
+use Rattle.inscribing.proofs.assign_line.Tie as tie
 
 -- the pieces fit
 fits : (c : tie.After-name-at2) →

@@ -1,0 +1,4 @@
+-- The line of an entry of a policy.
+pub mod LineText
+pub mod Adding
+pub mod LineLaws
