@@ -4,3 +4,7 @@ pub mod OrdersRead
 pub mod Picked
 pub mod SetsAlike
 pub mod LinesAlike
+pub mod WrittenLines
+pub mod Growing
+pub mod ReadLines
+pub mod Read

@@ -1,17 +1,16 @@
 -- A good line is like the line that is written of what it says; a has line is that line.
 use Prim.Native.Nat.{ℕ, _≤_}
 use mathlib.Core.Bool.{Bool, true, false, not, cond, _&&_, _||_, and-eq-true-iff, false≢true}
-use mathlib.Core.List.{List, [], _∷_, _++_}
+use mathlib.Core.List.{List, [], _∷_}
 use mathlib.Core.Path.{_≡_, refl, sym, ap, ap₂, subst, _∙_}
 use lib.Dec.{eqb}
 use lib.ListN.{length}
-use Rattle.text.specs.Forms.{bytes, isName, isSet, isLabel, nameByte, between, every}
+use Rattle.text.specs.Forms.{bytes, isName, isSet, isLabel}
 use Rattle.text.specs.Pieces.{split, onto, sameBytes}
 use Rattle.text.specs.PieceLaws.{same-equal}
 use Rattle.tables.specs.declared.Name.{Name}
-use Rattle.tables.specs.Names.{packed, nameAt}
 use Rattle.tables.specs.Named.{Named}
-use Rattle.fields.specs.Fields.{placed, isDeclared, allDeclared, rolesOf}
+use Rattle.fields.specs.Fields.{isDeclared, allDeclared, rolesOf}
 use Rattle.lines.specs.declared.Counts.{Counts}
 use Rattle.lines.specs.declared.Entry.{Entry}
 use Rattle.lines.specs.Lines.{oneField, twoFields, threeFields, fiveFields, lineOf, asked, inOrder, roleKind, userKind, hasKind, assignKind, revokeKind, goalKind}
@@ -19,10 +18,9 @@ use Rattle.lines.specs.Lines as kind
 use Rattle.lines.specs.LineLaws.{GoodLine}
 use Rattle.reading.specs.Policy.{Said, countsOf}
 use Rattle.reading.specs.Sound.{Sound}
-use Rattle.writing.specs.Written.{spelled}
 use Rattle.writing.specs.Spelling.{spelled-packed}
 use Rattle.showing.specs.Fields.{field}
-use Rattle.spelling.specs.TypingText.{setText, labelText}
+use Rattle.spelling.specs.TypingText.{labelText}
 use Rattle.spelt.specs.Lines.{parted}
 use Rattle.spelt.specs.LinesExact.{fields-parted}
 use Rattle.rereading.specs.Cuts.{free, free-name}
@@ -188,6 +186,14 @@ module _ {roles users : List Name} (roles-named : Named roles) (users-named : Na
   kind-alike kind.other formed known = absurd (false≢true formed)
 
 -- ---- a whole line
+
+-- A line is like itself.
+pub line-same : (line : List ℕ) → LineAlike line line
+line-same line = record { fields = each-same (split 9 line) }
+  where
+    each-same : (fields : List (List ℕ)) → Each FieldAlike fields fields
+    each-same [] = Each.none
+    each-same (one ∷ fields) = Each.more (field-same refl) (each-same fields)
 
 module _ (s : Said) (line : List ℕ) (sound : Sound s) where
   -- A good line is like what is written of it.
