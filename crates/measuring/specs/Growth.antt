@@ -15,7 +15,7 @@ use Rattle.roles.specs.MemberLaws.{has-empty}
 use Rattle.model.specs.declared.Assign.{Assign}
 use Rattle.model.specs.declared.Revoke.{Revoke}
 use Rattle.model.specs.declared.Person.{Person}
-use Rattle.model.specs.Policy.{noAssign, noRevoke, nobody, person, withRole, granted}
+use Rattle.model.specs.Policy.{noAssign, noRevoke, State, nobody, person, withRole, granted}
 use Rattle.tables.specs.declared.Name.{Name}
 use Rattle.tables.specs.Names.{packed, nameAt}
 use Rattle.lines.specs.declared.Entry.{Entry}
@@ -32,13 +32,13 @@ use Rattle.measuring.specs.Blocks.{lineSize, linesSize, lines-one, held-
 -- ---- one element more
 
 -- the elements of a list and one past them
-old-at : {A : Type 0} (xs : List A) (x past : A) (k : ℕ) → k < length xs → getD (xs ++ (x ∷ [])) k past ≡ getD xs k past
+pub old-at : {A : Type 0} (xs : List A) (x past : A) (k : ℕ) → k < length xs → getD (xs ++ (x ∷ [])) k past ≡ getD xs k past
 old-at xs x past k below = List·getD-append xs (x ∷ []) past k below
 
-new-at : {A : Type 0} (xs : List A) (x past : A) → getD (xs ++ (x ∷ [])) (length xs) past ≡ x
+pub new-at : {A : Type 0} (xs : List A) (x past : A) → getD (xs ++ (x ∷ [])) (length xs) past ≡ x
 new-at xs x past = getD-append-seam xs x [] past
 
-one-longer : {A : Type 0} (xs : List A) (x : A) → length (xs ++ (x ∷ [])) ≡ suc (length xs)
+pub one-longer : {A : Type 0} (xs : List A) (x : A) → length (xs ++ (x ∷ [])) ≡ suc (length xs)
 one-longer xs x = length-append xs (x ∷ []) ∙ add-one (length xs)
 
 module _ (f g : ℕ → ℕ) {count size : ℕ} where
@@ -140,6 +140,19 @@ user-grows s name clearance people =
       same-block (elementSize s Block.Goals) (elementSize t Block.Goals) {count = length (s .goals)} refl (λ k below. goal-alone (s .roles) (s .users ++ (name ∷ [])) (s .users) (getD (s .goals) k emptySet)),
     )
 
+-- A role more leaves clearances as they were.
+pub cleared : (σ : State) (user role : ℕ) → user < length σ → (k : ℕ) → person (granted σ user role) k .clearance ≡ person σ k .clearance
+unfolding person granted withRole
+cleared σ user role below k = go (eqb k user) refl
+  where
+    go : (b : Bool) → eqb k user ≡ b → getD (set σ user (withRole (person σ user) role)) k nobody .clearance ≡ getD σ k nobody .clearance
+    go true e =
+        let is = eqb-true k user e in
+        ap (λ (j : ℕ). getD (set σ user (withRole (person σ user) role)) j nobody .clearance) is
+        ∙ ap (λ (p : Person). p .clearance) (getD-set-same σ user (withRole (person σ user) role) nobody below)
+        ∙ ap (λ (j : ℕ). getD σ j nobody .clearance) (sym is)
+    go false e = ap (λ (p : Person). p .clearance) (getD-set-other σ user k (withRole (person σ user) role) nobody (eqb-false k user e))
+
 -- A role that a user did not hold.
 pub has-grows : (s : Said) (user role : ℕ) → user < length (s .users) → length (s .holdings) ≡ length (s .users) → role < length (s .roles) → length (s .roles) ≤ 128 → hasRole (person (s .holdings) user .roles) role ≡ false
     → blocksLength (added s (Entry.Has user role)) ≡ blocksLength s + lineSize (s .roles) (s .users) (Entry.Has user role)
@@ -149,7 +162,7 @@ has-grows s user role below people known few new =
     let held = getD (s .holdings) user nobody .roles in
     omega (
       arith,
-      same-block (elementSize s Block.Users) (elementSize t Block.Users) {count = length (s .users)} refl (λ k at. ap (λ (c : Bool). linesSize (s .roles) (s .users) (Entry.User (nameAt (s .users) k) c ∷ [])) (cleared k)),
+      same-block (elementSize s Block.Users) (elementSize t Block.Users) {count = length (s .users)} refl (λ k at. ap (λ (c : Bool). linesSize (s .roles) (s .users) (Entry.User (nameAt (s .users) k) c ∷ [])) (cleared (s .holdings) user role (omega (arith, below, people)) k)),
       sum-more 0 (length (s .users)) user (lineSize (s .roles) (s .users) (Entry.Has user role)) {f = elementSize s Block.Has} {g = elementSize t Block.Has} (omega arith) (omega arith)
           (λ k other. ap (λ (p : Person). linesSize (s .roles) (s .users) (heldFrom k 0 (p .roles) (s .roles))) (getD-set-other (s .holdings) user k (withRole (person (s .holdings) user) role) nobody other))
           (ap (λ (p : Person). linesSize (s .roles) (s .users) (heldFrom user 0 (p .roles) (s .roles))) (getD-set-same (s .holdings) user (withRole (person (s .holdings) user) role) nobody (omega arith))
@@ -157,17 +170,6 @@ has-grows s user role below people known few new =
           ∙ weight-with (λ (r : ℕ). lineSize (s .roles) (s .users) (Entry.Has user r)) (length (s .roles)) held role known few new
           ∙ ap (λ (n : ℕ). n + lineSize (s .roles) (s .users) (Entry.Has user role)) (sym (held-size (s .roles) (s .users) user 0 held (s .roles)))),
     )
-  where
-    cleared : (k : ℕ) → getD (set (s .holdings) user (withRole (person (s .holdings) user) role)) k nobody .clearance ≡ getD (s .holdings) k nobody .clearance
-    cleared k = go (eqb k user) refl
-      where
-        go : (b : Bool) → eqb k user ≡ b → getD (set (s .holdings) user (withRole (person (s .holdings) user) role)) k nobody .clearance ≡ getD (s .holdings) k nobody .clearance
-        go true e =
-            let is = eqb-true k user e in
-            ap (λ (j : ℕ). getD (set (s .holdings) user (withRole (person (s .holdings) user) role)) j nobody .clearance) is
-            ∙ ap (λ (p : Person). p .clearance) (getD-set-same (s .holdings) user (withRole (person (s .holdings) user) role) nobody (omega (arith, below, people)))
-            ∙ ap (λ (j : ℕ). getD (s .holdings) j nobody .clearance) (sym is)
-        go false e = ap (λ (p : Person). p .clearance) (getD-set-other (s .holdings) user k (withRole (person (s .holdings) user) role) nobody (eqb-false k user e))
 
 -- A rule or a goal.
 pub assign-grows : (s : Said) (rule : Assign) → blocksLength (added s (Entry.Assign rule)) ≡ blocksLength s + lineSize (s .roles) (s .users) (Entry.Assign rule)

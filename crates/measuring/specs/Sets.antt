@@ -76,11 +76,11 @@ module _ {table : List Name} (named : Named table) where
   -- ---- the set that names say
 
   -- a name whose role is not in a set
-  unfoldable isFresh : RoleSet → List ℕ → Bool
+  unfoldable pub isFresh : RoleSet → List ℕ → Bool
   isFresh set name = not (hasRole set (placed table name))
 
   -- names stay new to a set when another one is added
-  fresh-on : (few : length table ≤ 128) (set : RoleSet) (name : List ℕ) (rest : List (List ℕ)) → isName name ≡ true → isDeclared table name ≡ true → every isName rest ≡ true → among name rest ≡ false → every (isFresh set) rest ≡ true
+  pub fresh-on : (few : length table ≤ 128) (set : RoleSet) (name : List ℕ) (rest : List (List ℕ)) → isName name ≡ true → isDeclared table name ≡ true → every isName rest ≡ true → among name rest ≡ false → every (isFresh set) rest ≡ true
       → every (isFresh (withOf set (placed table name))) rest ≡ true
   unfolding every among isFresh isDeclared
   fresh-on few set name [] form known forms alone fresh = refl

@@ -7,3 +7,12 @@ pub mod Grants
 pub mod HeldSame
 pub mod Leading
 pub mod Same
+pub mod OrdersMore
+pub mod Picked
+pub mod SetsAlike
+pub mod LinesAlike
+pub mod WrittenLines
+pub mod Growing
+pub mod ReadLines
+pub mod Read
+pub mod Exactly

@@ -28,7 +28,7 @@ module _ {A : Type 0} where
   reordered-back (Reordered.put order at) = put-front (reordered-back order) at
 
   -- and lists after one another can be put into order one by one.
-  inserted-join : {x : A} {others all : List A} (more : List A) → Inserted x others all → Inserted x (others ++ more) (all ++ more)
+  pub inserted-join : {x : A} {others all : List A} (more : List A) → Inserted x others all → Inserted x (others ++ more) (all ++ more)
   inserted-join more Inserted.here = Inserted.here
   inserted-join more (Inserted.there below) = Inserted.there (inserted-join more below)
 
