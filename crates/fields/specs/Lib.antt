@@ -2,5 +2,6 @@
 pub mod Fields
 pub mod FieldLaws
 pub mod Sets
+pub mod Insides
 pub mod Roles
 pub mod Cutting

@@ -14,6 +14,7 @@ use Rattle.roles.specs.MemberLaws.{with-cases, with-old, empty-none, empty-size
 use Rattle.tables.specs.declared.Name.{Name}
 use Rattle.text.specs.Forms.{every, namesOf}
 use Rattle.fields.specs.Fields.{placed, isDeclared, allDeclared, rolesFrom, rolesOf}
+pub use Rattle.fields.specs.Insides.{Inside}
 
 module _ (names : List Name) where
   -- A role that is in the set stays in it.
@@ -58,11 +59,6 @@ from-sized names s (name ∷ rest) sized = from-sized names (withOf s (placed na
 pub roles-sized : (names : List Name) (field : List ℕ) → Sized (rolesOf names field)
 unfolding rolesOf
 roles-sized names field = from-sized names emptySet (namesOf field) empty-sized
-
--- The words of a set are of 64 bits, and all its roles are below a number.
-pub record Inside (roles : ℕ) (s : RoleSet) : Type 0 where
-  pub sized : Sized s
-  pub below : {role : ℕ} → role ∈ s → role < roles
 
 -- the roles of a set field whose names are declared
 pub roles-inside : (names : List Name) (field : List ℕ) → allDeclared names field ≡ true → Inside (length names) (rolesOf names field)

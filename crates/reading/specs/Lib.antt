@@ -3,6 +3,7 @@ pub mod Policy
 pub mod Ledger
 pub mod Read
 pub mod Answer
+pub mod SoundRules
 pub mod Sound
 pub mod LedgerLaws
 pub mod PolicyRefusals

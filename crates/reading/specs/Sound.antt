@@ -1,5 +1,4 @@
--- What every policy that is read satisfies: its counts are within their limits, its names are well formed and stand once, and what its
--- users hold, its rules and its goals name declared roles, in words of 64 bits.
+-- That every policy that is read is sound.
 use Prim.Native.Nat.{ℕ, _+_, _≤_, _<_, zero-le}
 use mathlib.Core.Bool.{true, not, _&&_, and-eq-true-iff}
 use mathlib.Core.List.{List, [], _∷_, _++_, List·Memᴰ as Listed, List·Memᴰ·not-nil as not-nil}
@@ -30,41 +29,7 @@ use Rattle.lines.specs.Lines.{Line, header, role, user, has, assign, revoke, go
 use Rattle.lines.specs.LineLaws.{GoodLine}
 use Rattle.reading.specs.Policy.{Said, nothing, countsOf, atStage, sayRoles, sayUsers, sayHoldings, sayAssigns, sayRevokes, sayGoals, kindOf, noted, added, judgeLine, readPolicy}
 use Rattle.reading.specs.Answer.{line-leads}
-
--- At most so many names, each well formed, and none twice.
-pub record Listing (limit : ℕ) (names : List Name) : Type 0 where
-  pub most : length names ≤ limit
-  pub named : Named names
-
--- At most so many elements, with something that holds of each.
-pub record AtMost {A : Type 0} (limit : ℕ) (P : A → Type 0) (xs : List A) : Type 0 where
-  pub most : length xs ≤ limit
-  pub each : (x : A) → Listed x xs → P x
-
--- A rule names roles below a number only.
-pub record AssignOver (roles : ℕ) (rule : Assign) : Type 0 where
-  pub admin : rule .admin < roles
-  pub positive : Inside roles (rule .positive)
-  pub negative : Inside roles (rule .negative)
-  pub target : rule .target < roles
-
-pub record RevokeOver (roles : ℕ) (rule : Revoke) : Type 0 where
-  pub admin : rule .admin < roles
-  pub target : rule .target < roles
-
--- A person holds roles below a number only.
-pub record PersonOver (roles : ℕ) (p : Person) : Type 0 where
-  pub held : Inside roles (p .roles)
-
-pub record Sound (s : Said) : Type 0 where
-  pub roles : Listing 128 (s .roles)
-  pub users : Listing 64 (s .users)
-  -- every user has holdings
-  pub people : length (s .holdings) ≡ length (s .users)
-  pub holdings : (p : Person) → Listed p (s .holdings) → PersonOver (length (s .roles)) p
-  pub assigns : AtMost 256 (AssignOver (length (s .roles))) (s .assigns)
-  pub revokes : AtMost 256 (RevokeOver (length (s .roles))) (s .revokes)
-  pub goals : AtMost 32 (Inside (length (s .roles))) (s .goals)
+pub use Rattle.reading.specs.SoundRules.{Listing, AtMost, AssignOver, RevokeOver, PersonOver, Sound}
 
 -- ---- one part changed, and all else as it was
 

@@ -3,4 +3,5 @@ pub mod Names
 pub mod NameLaws
 pub mod Padded
 pub mod Storing
+pub mod NamedRules
 pub mod Named

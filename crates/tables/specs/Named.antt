@@ -1,4 +1,4 @@
--- Names in a table: each is a name packed, and none stands twice.
+-- How a table of names, each packed and standing once, takes one name more.
 use Prim.Native.Nat.{ℕ, suc, _≤_, _<_}
 use mathlib.Core.Bool.{Bool, true, false, cond}
 use mathlib.Core.List.{List, [], _∷_, _++_, List·Memᴰ as Listed, List·Memᴰ·not-nil as not-nil}
@@ -12,17 +12,7 @@ use Rattle.text.specs.Forms.{isName}
 use Rattle.text.specs.Lists.{each-more}
 use Rattle.tables.specs.declared.Name.{Name}
 use Rattle.tables.specs.Names.{packed, sameName, placeOf}
-
--- A field that is a name, and its packing.
-pub record Spelt (name : Name) : Type 0 where
-  pub field : List ℕ
-  pub form : isName field ≡ true
-  pub packing : name ≡ packed field
-
--- Every name is a name packed, and each stands at its own place only.
-pub record Named (names : List Name) : Type 0 where
-  pub spelt : (name : Name) → Listed name names → Spelt name
-  pub single : (past : Name) (place : ℕ) → place < length names → placeOf names (getD names place past) ≡ place
+pub use Rattle.tables.specs.NamedRules.{Spelt, Named}
 
 -- ---- one name more
 
