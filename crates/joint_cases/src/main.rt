@@ -1,78 +1,18 @@
 // Runs the merges and sums that its arguments name, seven words each: `merge` or `sum`, the case's name, the size of the lent
 // buffer, and the files of the texts, with `-` for the fourth of a sum. It prints these three words, the answer, how many bytes
 // behind the text are as they were, and the text.
-ghost use Prim.Native.Nat.{_≤_, _<_};
-ghost use Rattle.io.specs.Counts.{Counts};
+ghost use Prim.Native.Nat.{_≤_};
 use files::load_argument;
 use judging::Part;
+use lending::FILLING;
+use lending::LARGEST;
+use lending::field;
+use lending::number;
+use lending::show_buffer;
+use lending::within;
 use libc::STDOUT_FILENO;
 use merging::MergeAnswer;
 use summing::SumAnswer;
-
-// What each byte of the lent buffer is before the call: a full stop, which no text has.
-const FILLING: u8 = b'.';
-
-// The size of the largest lent buffer.
-const LARGEST: usize = 40000;
-
-// The digit that a byte is in ASCII.
-fn digit(byte: u8) -> usize
-    ensures { λ r. ⌜ r < 16 ⌝ }
-{
-    (byte % 16) as usize
-}
-
-// The number that a word is in decimal; where it is above the largest buffer, its first digits that are.
-fn number(word: &[u8]) -> usize {
-    let mut value = 0;
-    let mut at = 0;
-    while at < word.len() {
-        if LARGEST < value {
-            return value;
-        }
-        value = 10 * value + digit(word[at]);
-        at += 1;
-    }
-    value
-}
-
-// The number, or where the buffer is shorter, the buffer's length.
-fn within(number: usize, buffer: &[u8]) -> usize
-    ensures { λ r. ⌜ Counts r (now (buffer .entry)) ⌝ }
-{
-    if number < buffer.len() {
-        return number;
-    }
-    buffer.len()
-}
-
-// How many bytes from a place on are still the filling.
-fn kept(out: &[u8], from: usize) -> usize {
-    let mut count = 0;
-    let mut at = from;
-    while at < out.len() {
-        let byte = out[at];
-        at += 1;
-        if byte == FILLING {
-            count += 1;
-        }
-    }
-    count
-}
-
-// Writes a tab and a number.
-fn field(number: usize) {
-    io::write_all(STDOUT_FILENO, b"\t");
-    io::print_decimal(STDOUT_FILENO, number as u64);
-}
-
-// Writes what the buffer holds: how many bytes behind the text are still the filling, and on the next lines the text.
-fn show_buffer(out: &[u8], length: usize) {
-    field(kept(out, length));
-    io::write_all(STDOUT_FILENO, b"\n");
-    let end = within(length, out);
-    io::write_all(STDOUT_FILENO, &out[..end]);
-}
 
 // Writes the first failure: which of the four judgings, the part and the number.
 fn show_unproved(which: usize, part: Part, number: usize) {
