@@ -1,5 +1,5 @@
 /* The library's functions for C callers: a policy text and a piece of evidence judged, its line, its bad line, the sum of two
-   typings, the merge of two judged policies, and the bad line of a typing that they refuse.
+   typings, the merge of two judged policies, the bad line of a typing that they refuse, and the spelling of a policy.
 
    Every slice is two arguments, where it begins and how many elements it has. A pointer is never null, not even where the
    length is 0, and numbers stand at addresses divisible by 8. No text is changed, and texts may overlap each other. What is
@@ -21,13 +21,13 @@
    After every number but ARBAC_NO_ROOM and ARBAC_NO_MEMORY all values of the array are told, as many as its size below says:
    those that are listed for the answer, in that order, and zeros past them. Past its size the array keeps what it had.
 
-   `out` of the sum and the merge holds a text after ARBAC_DONE only, and past the text it keeps what it had. After every other
-   number, ARBAC_NO_ROOM and ARBAC_NO_MEMORY among them, all of it is as it was.
+   `out` of the sum, the merge and the spelling holds a text after ARBAC_DONE only, and past the text it keeps what it had. After
+   every other number, ARBAC_NO_ROOM and ARBAC_NO_MEMORY among them, all of it is as it was.
 
    `arbac_check_line` AND `arbac_check_line_in` RETURN A LENGTH, AND NOT AN ANSWER'S NUMBER. FROM THEM ALONE 0 SAYS THAT THE
    BUFFER OR THE MEMORY WAS TOO SHORT, and then no line was written.
 
-   A line is counted from 1, and is 0 for 10, 14, 17, 18 and 19. Users, rules, goals and steps are counted from 1. */
+   A line is counted from 1, and is 0 for 10, 14, 17, 18, 19 and 20. Users, rules, goals and steps are counted from 1. */
 #ifndef ARBAC_H
 #define ARBAC_H
 
@@ -51,7 +51,7 @@ extern "C" {
 #define ARBAC_BROKEN 3
 #define ARBAC_SHORT 4
 
-/* The success of a sum or a merge: the text is in `out`. */
+/* The success of a sum, a merge or a spelling: the text is in `out`. */
 #define ARBAC_DONE 0
 
 /* The refusals. */
@@ -65,6 +65,7 @@ extern "C" {
 #define ARBAC_DIRECTORIES_DIFFER 17 /* roles, users, clearances or holdings of the two policies */
 #define ARBAC_SUM_TOO_LONG 18 /* the sum's text is longer than `out` or than 32,768 bytes */
 #define ARBAC_JOINT_ABOVE_LIMIT 19 /* a joint count above its limit */
+#define ARBAC_SPELLING_TOO_LONG 20 /* the policy's spelling is longer than `out` */
 
 /* The parts of a policy. The number beside a part is that of the user, the rule or the goal. */
 #define ARBAC_PART_HOLDINGS 1
@@ -98,6 +99,7 @@ extern "C" {
 #define ARBAC_BAD_LINE 2
 #define ARBAC_SUM 2
 #define ARBAC_MERGE 6
+#define ARBAC_SPELL 1
 #define ARBAC_TEXT 32768
 
 /* How many words of memory a call needs, and a merge. */
@@ -214,6 +216,23 @@ uint64_t arbac_merge_in(const uint8_t *policy_1, size_t policy_1_length,
                         const uint8_t *typing_1, size_t typing_1_length,
                         const uint8_t *policy_2, size_t policy_2_length,
                         const uint8_t *typing_2, size_t typing_2_length,
+                        uint8_t *out, size_t out_length,
+                        uint64_t *values, size_t values_length,
+                        uint64_t *memory, size_t memory_length);
+
+/* Writes a policy back as text, for which every text of that policy gives the same bytes: has lines in user order, then role order,
+   all other lines in the order read, the names of a set in role order. It is as long as the text that was read.
+
+     ARBAC_DONE                 length of the text in `out`
+     10 to 13                   line
+     ARBAC_SPELLING_TOO_LONG    0
+     ARBAC_NO_ROOM              nothing, where values_length is below ARBAC_SPELL  */
+uint64_t arbac_spell(const uint8_t *policy, size_t policy_length,
+                     uint8_t *out, size_t out_length,
+                     uint64_t *values, size_t values_length);
+
+/* The same in lent memory; ARBAC_NO_MEMORY and nothing, where memory_length is below ARBAC_MEMORY. */
+uint64_t arbac_spell_in(const uint8_t *policy, size_t policy_length,
                         uint8_t *out, size_t out_length,
                         uint64_t *values, size_t values_length,
                         uint64_t *memory, size_t memory_length);

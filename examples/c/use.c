@@ -1,6 +1,6 @@
-/* The library called from C: the desk policy judged, a blank field found, the guard pair summed and merged, and a trace refused
-   where a typing is wanted; then all of it once more in lent memory. What a function returns is looked at before anything that
-   it wrote. It is C11 and C++17. */
+/* The library called from C: the desk policy judged, a blank field found, the guard pair summed and merged, a trace refused where
+   a typing is wanted, and a policy spelt; then all of it once more in lent memory. What a function returns is looked at before
+   anything that it wrote. It is C11 and C++17. */
 #include <inttypes.h>
 #include <stdio.h>
 #include <stdlib.h>
@@ -192,6 +192,30 @@ static void print_merge(const struct text *policy_1, const struct text *typing_1
     }
 }
 
+/* The policy as every text of it is spelt, into a buffer of the length given. */
+static void print_spelling(const struct text *policy, size_t room, uint64_t *memory) {
+    static uint8_t out[ARBAC_TEXT];
+    uint64_t values[ARBAC_SPELL];
+    uint64_t answer;
+    if (memory == NULL) {
+        answer = arbac_spell(policy->bytes, policy->length, out, room, values, ARBAC_SPELL);
+    } else {
+        answer = arbac_spell_in(policy->bytes, policy->length, out, room, values, ARBAC_SPELL, memory, ARBAC_MEMORY);
+    }
+    switch (answer) {
+    case ARBAC_DONE:
+        printf("spelt: %" PRIu64 " bytes\n", values[0]);
+        fwrite(out, 1, values[0], stdout);
+        break;
+    case ARBAC_NO_ROOM:
+    case ARBAC_NO_MEMORY:
+        stop("spell");
+        break;
+    default:
+        printf("not spelt: %" PRIu64 " at line %" PRIu64 "\n", answer, values[0]);
+    }
+}
+
 /* An array of zeros that is one number too short, and then memory that is one word too short: the array is as it was, and what is
    returned is no verdict. */
 static void check_without_room(const char *policy_path, const char *evidence_path, uint64_t *memory) {
@@ -218,6 +242,11 @@ static void use_all(uint64_t *memory) {
     struct text loose = read_text("examples/loose_desk/policy.txt"), trace = read_text("examples/loose_desk/evidence.txt");
     struct text typing = read_text("examples/desk/evidence.txt");
     print_sum(&loose, &typing, &trace, memory);
+
+    /* a policy whose sets are not in role order is spelt in as many bytes, and not in one fewer */
+    struct text shuffled = read_text("examples/shuffled/policy.txt");
+    print_spelling(&shuffled, shuffled.length, memory);
+    print_spelling(&shuffled, shuffled.length - 1, memory);
 }
 
 int main(void) {

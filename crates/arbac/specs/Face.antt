@@ -11,6 +11,7 @@ use Rattle.ledgers.specs.Memory.{noMemory, inMemory}
 use Rattle.summing.specs.declared.SumAnswer.{SumAnswer}
 use Rattle.summing.specs.Outcome.{Outcome, bufferAfter}
 use Rattle.merging.specs.declared.MergeAnswer.{MergeAnswer}
+use Rattle.scribing.specs.declared.SpellAnswer.{SpellAnswer}
 use Rattle.answering.specs.declared.Answer.{Answer}
 
 -- The number that is no answer and no text.
@@ -59,6 +60,10 @@ pub data IsSummed : SumAnswer → Type 0 where
 -- The sum of a merge is written.
 pub data IsMerged : MergeAnswer → Type 0 where
   merged : (roles assigns revokes goals pinned written : ℕ) → IsMerged (MergeAnswer.Merged roles assigns revokes goals pinned written)
+
+-- The spelling is written.
+pub data IsSpelled : SpellAnswer → Type 0 where
+  spelled : (written : ℕ) → IsSpelled (SpellAnswer.Spelled written)
 
 -- What is answered is 255 exactly where the array has no room, and 0 exactly where it has room and the answer is a success.
 pub record Answered (width : ℕ) (array : List ℕ) (Success : Type 0) (answered : ℕ) : Type 0 where

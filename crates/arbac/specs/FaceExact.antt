@@ -24,6 +24,8 @@ use Rattle.summing.specs.Outcome.{answerIn}
 use Rattle.summing.specs.Sum as sum
 use Rattle.merging.specs.declared.MergeAnswer.{MergeAnswer}
 use Rattle.merging.specs.Merge as merge
+use Rattle.scribing.specs.declared.SpellAnswer.{SpellAnswer}
+use Rattle.scribing.specs.Spell as spell
 use Rattle.answering.specs.declared.Answer.{Answer}
 use Rattle.tables.specs.Names.{nameAt}
 use Rattle.answering.specs.Answers.{numberOf, answerOf}
@@ -32,13 +34,13 @@ use Rattle.printing.specs.Line.{lineOf, checkLine}
 use Rattle.printing.specs.LineSteps.{part-length}
 use Rattle.printing.specs.Program.{noFile, programLine}
 use Rattle.telling.specs.Numbers.{placeText}
-use Rattle.arbac.specs.Face.{noRoom, roomFor, toldNumber, toldIn, IsSafe, safe, IsSummed, summed, IsMerged, merged, Answered, lentNumber, AnsweredLent}
-use Rattle.arbac.specs.FaceNumbers.{check-numbered, sum-numbered, merge-numbered}
+use Rattle.arbac.specs.Face.{noRoom, roomFor, toldNumber, toldIn, IsSafe, safe, IsSummed, summed, IsMerged, merged, IsSpelled, spelled, Answered, lentNumber, AnsweredLent}
+use Rattle.arbac.specs.FaceNumbers.{check-numbered, sum-numbered, merge-numbered, spell-numbered}
 
 -- ---- the number that is answered
 
 -- a number that is told in an array, of which it is known when it is 0
-told-so : {number : ℕ} {Success : Type 0} (width : ℕ) (array : List ℕ) → number ≤ 19 → number ≡ 0 ↔ Success → Answered width array Success (toldNumber width number array)
+told-so : {number : ℕ} {Success : Type 0} (width : ℕ) (array : List ℕ) → number ≤ 20 → number ≡ 0 ↔ Success → Answered width array Success (toldNumber width number array)
 unfolding toldNumber roomFor
 told-so {number} {Success} width array listed zero = go (leb width (length array)) refl
   where
@@ -54,7 +56,7 @@ told-so {number} {Success} width array listed zero = go (leb width (length array
         record { none-told = (λ none. short, λ less. refl); zero-told = (λ is. absurd (omega (arith, is)), λ told. absurd (omega (arith, short, told .0))) }
 
 -- the same in lent memory
-lent-so : {number : ℕ} {Success : Type 0} (needed width : ℕ) (memory array : List ℕ) → number ≤ 19 → number ≡ 0 ↔ Success → AnsweredLent needed width memory array Success (lentNumber needed width number memory array)
+lent-so : {number : ℕ} {Success : Type 0} (needed width : ℕ) (memory array : List ℕ) → number ≤ 20 → number ≡ 0 ↔ Success → AnsweredLent needed width memory array Success (lentNumber needed width number memory array)
 unfolding lentNumber toldNumber roomFor inMemory
 lent-so {number} {Success} needed width memory array listed zero = go (leb width (length array)) (ltb (length memory) needed) refl refl
   where
@@ -93,6 +95,9 @@ summed-zero (summed pinned written) = refl
 merged-zero : {answer : MergeAnswer} → IsMerged answer → merge.numberOf answer ≡ 0
 merged-zero (merged roles assigns revokes goals pinned written) = refl
 
+spelled-zero : {answer : SpellAnswer} → IsSpelled answer → spell.numberOf answer ≡ 0
+spelled-zero (spelled written) = refl
+
 -- `arbac_check` answers 0 only where the answer is SAFE,
 pub check-told : (policy evidence array : List ℕ) → let answer = answerOf policy evidence in Answered 5 array (IsSafe answer) (toldNumber 5 (numberOf answer) array)
 check-told policy evidence array =
@@ -109,6 +114,12 @@ pub merge-told : (policy₁ typing₁ policy₂ typing₂ : List ℕ) (room : �
 merge-told policy₁ typing₁ policy₂ typing₂ room array =
     let n = merge-numbered policy₁ typing₁ policy₂ typing₂ room in
     told-so 6 array (n .listed) (n .zero-only, merged-zero)
+
+-- `arbac_spell` where the spelling is,
+pub spell-told : (policy : List ℕ) (room : ℕ) (array : List ℕ) → let answer = answerIn (spell.spellOutcome policy room) in Answered 1 array (IsSpelled answer) (toldNumber 1 (spell.numberOf answer) array)
+spell-told policy room array =
+    let n = spell-numbered policy room in
+    told-so 1 array (n .listed) (n .zero-only, spelled-zero)
 
 -- in lent memory too,
 pub check-lent : (policy evidence memory array : List ℕ) → let answer = answerOf policy evidence in AnsweredLent ledgerWords 5 memory array (IsSafe answer) (lentNumber ledgerWords 5 (numberOf answer) memory array)
@@ -127,6 +138,11 @@ pub merge-lent : (policy₁ typing₁ policy₂ typing₂ : List ℕ) (room : �
 merge-lent policy₁ typing₁ policy₂ typing₂ room memory array =
     let n = merge-numbered policy₁ typing₁ policy₂ typing₂ room in
     lent-so merge.mergeWords 6 memory array (n .listed) (n .zero-only, merged-zero)
+
+pub spell-lent : (policy : List ℕ) (room : ℕ) (memory array : List ℕ) → let answer = answerIn (spell.spellOutcome policy room) in AnsweredLent ledgerWords 1 memory array (IsSpelled answer) (lentNumber ledgerWords 1 (spell.numberOf answer) memory array)
+spell-lent policy room memory array =
+    let n = spell-numbered policy room in
+    lent-so ledgerWords 1 memory array (n .listed) (n .zero-only, spelled-zero)
 
 -- and the functions that tell a place never.
 pub bad-place-told : (place : BadPlace) (array : List ℕ) → Answered 2 array ⊥ (toldNumber 2 (placeText place) array)

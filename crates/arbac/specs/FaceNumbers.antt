@@ -3,7 +3,7 @@ use Prim.Native.Nat.{ℕ, _≤_}
 use mathlib.Core.Bool.{Bool, true, false, cond}
 use mathlib.Core.List.{List}
 use mathlib.Core.Path.{_≡_, refl}
-use lib.Dec.{lit≤}
+use lib.Dec.{leb, lit≤}
 use lib.ListN.{length}
 use native.Mathlib.Omega.{arith}
 use Rattle.model.specs.declared.Typing.{Typing as Table}
@@ -23,28 +23,31 @@ use Rattle.summing.specs.Sum as sum
 use Rattle.merging.specs.declared.MergeAnswer.{MergeAnswer}
 use Rattle.merging.specs.Directory.{sameDirectory}
 use Rattle.merging.specs.Merge as merge
+use Rattle.drafting.specs.PolicyText.{policyText}
+use Rattle.scribing.specs.declared.SpellAnswer.{SpellAnswer}
+use Rattle.scribing.specs.Spell as spell
 use Rattle.answering.specs.declared.Answer.{Answer}
 use Rattle.answering.specs.Answers.{numberOf, answerOf}
 use Rattle.answering.specs.Refusals.{policy-number, evidence-number, refused-number}
-use Rattle.arbac.specs.Face.{IsSafe, safe, IsSummed, summed, IsMerged, merged}
+use Rattle.arbac.specs.Face.{IsSafe, safe, IsSummed, summed, IsMerged, merged, IsSpelled, spelled}
 
 -- ---- of any answer
 
 -- An answer's number is one of document 01's, and 0 only where it is a success.
 pub record Numbered {A : Type 0} (numberOf : A → ℕ) (Success : A → Type 0) (answer : A) : Type 0 where
-  pub listed : numberOf answer ≤ 19
+  pub listed : numberOf answer ≤ 20
   pub zero-only : numberOf answer ≡ 0 → Success answer
 
 -- an answer with another number than 0
-other : {A : Type 0} {numberOf : A → ℕ} {Success : A → Type 0} {answer : A} → 1 ≤ numberOf answer → numberOf answer ≤ 19 → Numbered numberOf Success answer
+other : {A : Type 0} {numberOf : A → ℕ} {Success : A → Type 0} {answer : A} → 1 ≤ numberOf answer → numberOf answer ≤ 20 → Numbered numberOf Success answer
 other least most = record { listed = most; zero-only = λ none. absurd (omega (arith, least, none)) }
 
 -- a refusal
-refusal : {A : Type 0} (numberOf : A → ℕ) {Success : A → Type 0} (answer : A) → (10 ≤ numberOf answer) × (numberOf answer ≤ 19) → Numbered numberOf Success answer
+refusal : {A : Type 0} (numberOf : A → ℕ) {Success : A → Type 0} (answer : A) → (10 ≤ numberOf answer) × (numberOf answer ≤ 20) → Numbered numberOf Success answer
 refusal numberOf answer between = other (omega arith) (between .1)
 
 -- a refusal of a text
-text-number : {k : ℕ} → (10 ≤ k) × (k ≤ 16) → (10 ≤ k) × (k ≤ 19)
+text-number : {k : ℕ} → (10 ≤ k) × (k ≤ 16) → (10 ≤ k) × (k ≤ 20)
 text-number between = (between .0, omega arith)
 
 -- ---- of `check`
@@ -63,10 +66,10 @@ check-numbered policy evidence = go (answerOf policy evidence) refl
 -- ---- of sum and merge
 
 -- the number of a policy or a typing that is not read
-policy-refused : (text : List ℕ) {k n : ℕ} → readPolicy text ≡ refused k n → (10 ≤ k) × (k ≤ 19)
+policy-refused : (text : List ℕ) {k n : ℕ} → readPolicy text ≡ refused k n → (10 ≤ k) × (k ≤ 20)
 policy-refused text {k} {n} is = text-number (policy-number (policy-refusal-exact text k n .0 is))
 
-typing-refused : (names : List Name) (text : List ℕ) {k n : ℕ} → readTyping names text ≡ refused k n → (10 ≤ k) × (k ≤ 19)
+typing-refused : (names : List Name) (text : List ℕ) {k n : ℕ} → readTyping names text ≡ refused k n → (10 ≤ k) × (k ≤ 20)
 typing-refused names text {k} {n} is = text-number (evidence-number (typing-refusal-exact names text k n .0 is))
 
 -- what holds of a refusal of a text and of what follows once it is read
@@ -92,11 +95,24 @@ sum-numbered policy first second room =
     when-read (Numbered sum.numberOf IsSummed) (SumAnswer.Refused 3) (readTyping (s .roles) second) _ (λ number line is. refusal sum.numberOf (SumAnswer.Refused 3 number line) (typing-refused (s .roles) second is)) (λ u.
     sum-written room (s .roles) (sumOf (tableOf t) (tableOf u)))))
 
+spell-written : (room : ℕ) (text : List ℕ) → Numbered spell.numberOf IsSpelled (answerIn (spell.spellWritten room text))
+unfolding spell.spellWritten answerIn
+spell-written room text = go (leb (length text) room)
+  where
+    go : (b : Bool) → Numbered spell.numberOf IsSpelled (answerIn (cond b (writes (SpellAnswer.Spelled (length text)) text) (leaves (SpellAnswer.Refused 20 0))))
+    go true = record { listed = lit≤ tt; zero-only = λ none. spelled _ }
+    go false = other (lit≤ tt) (lit≤ tt)
+
+pub spell-numbered : (policy : List ℕ) (room : ℕ) → Numbered spell.numberOf IsSpelled (answerIn (spell.spellOutcome policy room))
+unfolding spell.spellOutcome
+spell-numbered policy room =
+    when-read (Numbered spell.numberOf IsSpelled) SpellAnswer.Refused (readPolicy policy) _ (λ number line is. refusal spell.numberOf (SpellAnswer.Refused number line) (policy-refused policy is)) (λ s. spell-written room (policyText s))
+
 abbrev Fine : MergeAnswer → Type 0
 Fine = Numbered merge.numberOf IsMerged
 
 -- what holds of a refusal and of what follows holds of either
-when-either : (b : Bool) (next : Outcome MergeAnswer) (number : ℕ) → (10 ≤ number) × (number ≤ 19) → Fine (answerIn next) → Fine (answerIn (cond b next (leaves (MergeAnswer.Refused 0 number 0))))
+when-either : (b : Bool) (next : Outcome MergeAnswer) (number : ℕ) → (10 ≤ number) × (number ≤ 20) → Fine (answerIn next) → Fine (answerIn (cond b next (leaves (MergeAnswer.Refused 0 number 0))))
 unfolding answerIn
 when-either true next number r fine = fine
 when-either false next number r fine = refusal merge.numberOf (MergeAnswer.Refused 0 number 0) r

@@ -8,20 +8,24 @@ ghost use Rattle.summing.specs.Sum.{sumOutcome};
 ghost use Rattle.summing.specs.Sum as sums;
 ghost use Rattle.merging.specs.Merge.{mergeOutcome};
 ghost use Rattle.merging.specs.Merge as merges;
+ghost use Rattle.scribing.specs.Spell.{spellOutcome};
+ghost use Rattle.scribing.specs.Spell as spells;
 ghost use Rattle.answering.specs.Answers.{answerOf, numberOf};
 ghost use Rattle.showing.specs.Fields.{shownLength, shown};
 ghost use Rattle.printing.specs.Line.{checkLine};
-ghost use Rattle.telling.specs.Numbers.{checkValues, sumValues, mergeValues, placeText, placeValues};
+ghost use Rattle.telling.specs.Numbers.{checkValues, sumValues, mergeValues, spellValues, placeText, placeValues};
 ghost use Rattle.arbac.specs.Face.{toldNumber, toldIn, bufferTold};
 use answering::check;
 use merging::merge::merge;
 use places::bad_place;
 use places::bad_typing_place;
 use printing::check_line;
+use scribing::spell;
 use summing::sum;
 use telling::tell_check;
 use telling::tell_merge;
 use telling::tell_place;
+use telling::tell_spell;
 use telling::tell_sum;
 
 // No answer and no text has this number.
@@ -92,6 +96,19 @@ pub extern "C" fn arbac_sum(
         return NO_ROOM;
     }
     tell_sum(values, sum(policy, first, second, out))
+}
+
+// Writes a policy's spelling into a buffer, answers the answer's number, and tells its value in an array of at least 1 number.
+#[no_mangle]
+pub extern "C" fn arbac_spell(policy: &[u8], out: &mut [u8], values: &mut [u64]) -> u64
+    ensures { λ r. ⌜ r ≡ toldNumber 1 (spells.numberOf (answerIn (spellOutcome (now (policy .entry)) (length (now (out .entry)))))) (now (values .entry)) ⌝ }
+    ensures { λ _. ⌜ now (values .exit) ≡ toldIn 1 (spellValues (answerIn (spellOutcome (now (policy .entry)) (length (now (out .entry)))))) (now (values .entry)) ⌝ }
+    ensures { λ _. ⌜ now (out .exit) ≡ bufferTold 1 (now (values .entry)) (spellOutcome (now (policy .entry)) (length (now (out .entry)))) (now (out .entry)) ⌝ }
+{
+    if values.len() < 1 {
+        return NO_ROOM;
+    }
+    tell_spell(values, spell(policy, out))
 }
 
 // Merges two policies, each with a typing of its own, writes the sum of the typings into a buffer, answers the answer's number,

@@ -10,10 +10,12 @@ ghost use Rattle.summing.specs.Sum.{sumOutcome};
 ghost use Rattle.summing.specs.Sum as sums;
 ghost use Rattle.merging.specs.Merge.{mergeOutcome, mergeWords};
 ghost use Rattle.merging.specs.Merge as merges;
+ghost use Rattle.scribing.specs.Spell.{spellOutcome};
+ghost use Rattle.scribing.specs.Spell as spells;
 ghost use Rattle.answering.specs.Answers.{answerOf, numberOf};
 ghost use Rattle.showing.specs.Fields.{shownLength, shown};
 ghost use Rattle.printing.specs.Line.{checkLine};
-ghost use Rattle.telling.specs.Numbers.{checkValues, sumValues, mergeValues, placeText, placeValues};
+ghost use Rattle.telling.specs.Numbers.{checkValues, sumValues, mergeValues, spellValues, placeText, placeValues};
 ghost use Rattle.arbac.specs.Face.{lentNumber, lentIn, bufferLent};
 use crate::face::NO_ROOM;
 use answering::check_in;
@@ -24,10 +26,12 @@ use merging::merge::merge_in;
 use places::bad_place_in;
 use places::bad_typing_place_in;
 use printing::check_line_in;
+use scribing::spell_in;
 use summing::sum_in;
 use telling::tell_check;
 use telling::tell_merge;
 use telling::tell_place;
+use telling::tell_spell;
 use telling::tell_sum;
 
 // As `arbac_check`.
@@ -130,6 +134,28 @@ pub extern "C" fn arbac_sum_in(
         return NO_MEMORY;
     }
     tell_sum(values, sum_in(policy, first, second, out, memory))
+}
+
+// As `arbac_spell`.
+#[no_mangle]
+pub extern "C" fn arbac_spell_in(
+    policy: &[u8],
+    out: &mut [u8],
+    values: &mut [u64],
+    memory: &mut [u64],
+) -> u64
+    ensures { λ r. ⌜ r ≡ lentNumber ledgerWords 1 (spells.numberOf (answerIn (spellOutcome (now (policy .entry)) (length (now (out .entry)))))) (now (memory .entry)) (now (values .entry)) ⌝ }
+    ensures { λ _. ⌜ now (values .exit) ≡ lentIn ledgerWords 1 (spellValues (answerIn (spellOutcome (now (policy .entry)) (length (now (out .entry)))))) (now (memory .entry)) (now (values .entry)) ⌝ }
+    ensures { λ _. ⌜ now (out .exit) ≡ bufferLent ledgerWords 1 (now (memory .entry)) (now (values .entry)) (spellOutcome (now (policy .entry)) (length (now (out .entry)))) (now (out .entry)) ⌝ }
+    ensures { λ _. ⌜ Spared ledgerWords (now (memory .entry)) (now (memory .exit)) ⌝ }
+{
+    if values.len() < 1 {
+        return NO_ROOM;
+    }
+    if memory.len() < WORDS {
+        return NO_MEMORY;
+    }
+    tell_spell(values, spell_in(policy, out, memory))
 }
 
 // As `arbac_merge`, in the words of two ledgers.

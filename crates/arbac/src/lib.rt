@@ -1,4 +1,4 @@
-// The public face: check, its line, the bad line, sum and merge; each also in lent memory; and the same for C callers.
+// The public face: check, its line, the bad line, sum, merge and spell; each also in lent memory; and the same for C callers.
 pub mod face;
 pub mod lent;
 
@@ -18,5 +18,7 @@ pub use printing::check_line;
 pub use printing::check_line_in;
 pub use printing::program_line;
 pub use printing::program_line_in;
+pub use scribing::spell;
+pub use scribing::spell_in;
 pub use summing::sum;
 pub use summing::sum_in;

@@ -9,8 +9,9 @@ use mir.Val.{boolByte}
 use Rattle.tables.specs.Padded.{padded}
 use Rattle.summing.specs.declared.SumAnswer.{SumAnswer}
 use Rattle.merging.specs.declared.MergeAnswer.{MergeAnswer}
+use Rattle.scribing.specs.declared.SpellAnswer.{SpellAnswer}
 use Rattle.answering.specs.declared.Answer.{Answer}
-use Rattle.telling.specs.Numbers.{checkValues, sumValues, mergeValues, Told}
+use Rattle.telling.specs.Numbers.{checkValues, sumValues, mergeValues, spellValues, Told}
 
 -- what is told is of an answer that is known
 pub known-told : {A : Type 0} (numberOf : A → ℕ) (valuesOf : A → List ℕ) {answer known : A} {number answered : ℕ} {values before after : List ℕ} → answer ≡ known → number ≡ numberOf known → values ≡ valuesOf known
@@ -30,7 +31,7 @@ pub text-number : (b : Bool) → boolByte b + 1 ≡ cond b 2 1
 text-number true = refl
 text-number false = refl
 
--- Every answer has 5, 2 and 6 values.
+-- Every answer has 5, 2, 6 and 1 values.
 pub check-width : (answer : Answer) → length (checkValues answer) ≡ 5
 unfolding checkValues padded
 check-width (Answer.Safe roles assigns revokes goals pinned) = refl
@@ -50,3 +51,8 @@ unfolding mergeValues padded
 merge-width (MergeAnswer.Merged roles assigns revokes goals pinned written) = refl
 merge-width (MergeAnswer.Unproved which part number) = refl
 merge-width (MergeAnswer.Refused which number line) = refl
+
+pub spell-width : (answer : SpellAnswer) → length (spellValues answer) ≡ 1
+unfolding spellValues padded
+spell-width (SpellAnswer.Spelled written) = refl
+spell-width (SpellAnswer.Refused number line) = refl

@@ -10,6 +10,8 @@ use Rattle.summing.specs.declared.SumAnswer.{SumAnswer}
 use Rattle.summing.specs.Sum as sum
 use Rattle.merging.specs.declared.MergeAnswer.{MergeAnswer}
 use Rattle.merging.specs.Merge as merge
+use Rattle.scribing.specs.declared.SpellAnswer.{SpellAnswer}
+use Rattle.scribing.specs.Spell as spell
 use Rattle.answering.specs.declared.Answer.{Answer}
 use Rattle.answering.specs.Answers.{valuesOf}
 
@@ -22,6 +24,9 @@ sumValues answer = padded 2 0 (sum.valuesOf answer)
 
 unfoldable pub mergeValues : MergeAnswer → List ℕ
 mergeValues answer = padded 6 0 (merge.valuesOf answer)
+
+unfoldable pub spellValues : SpellAnswer → List ℕ
+spellValues answer = padded 1 0 (spell.valuesOf answer)
 
 -- The text that a bad line stands in: 1 the policy, 2 the evidence.
 unfoldable pub placeText : BadPlace → ℕ

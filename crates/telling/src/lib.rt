@@ -3,12 +3,14 @@ ghost use Prim.Native.Nat.{_≤_};
 ghost use lib.ListN.{length};
 ghost use Rattle.summing.specs.Sum as sums;
 ghost use Rattle.merging.specs.Merge as merges;
+ghost use Rattle.scribing.specs.Spell as spells;
 ghost use Rattle.answering.specs.Answers.{numberOf};
-ghost use Rattle.telling.specs.Numbers.{checkValues, sumValues, mergeValues, placeText, placeValues, Told, UserListed};
+ghost use Rattle.telling.specs.Numbers.{checkValues, sumValues, mergeValues, spellValues, placeText, placeValues, Told, UserListed};
 use answering::Answer;
 use judging::part_number;
 use merging::MergeAnswer;
 use places::BadPlace;
+use scribing::SpellAnswer;
 use summing::SumAnswer;
 
 // Puts values at the start of an array, and answers a number.
@@ -96,6 +98,17 @@ pub fn tell_merge(array: &mut [u64], answer: MergeAnswer) -> u64
         MergeAnswer::Refused(which, number, line) => {
             tell(array, &[which as u64, line as u64, 0, 0, 0, 0], number)
         }
+    }
+}
+
+// Puts the values of an answer of `spell` at the start of an array, and answers its number.
+pub fn tell_spell(array: &mut [u64], answer: SpellAnswer) -> u64
+    requires { ⌜ 1 ≤ length (now array) ⌝ }
+    ensures { λ r. ⌜ Told (spells.numberOf answer) (spellValues answer) (now (array .entry)) r (now (array .exit)) ⌝ }
+{
+    match answer {
+        SpellAnswer::Spelled(length) => tell(array, &[length as u64], 0),
+        SpellAnswer::Refused(number, line) => tell(array, &[line as u64], number),
     }
 }
 
