@@ -80,8 +80,7 @@ needed() {
 progress() {
     local all="$1" proved=0 part='' line ended crate
     while true; do
-        IFS= read -r -t 1 line
-        ended=$?
+        if IFS= read -r -t 1 line; then ended=0; else ended=$?; fi
         part+="$line"
         if [ "$ended" -eq 0 ]; then
             case "$part" in

@@ -1,6 +1,7 @@
 // The program `arbac`: the verb that its argument names, over the texts of the working directory. The text that is made goes to
 // standard output, the line of the answer to standard error; where the text can't be written, there is no line.
 use commands::merge_of;
+use commands::spell_of;
 use commands::sum_of;
 use libc::STDERR_FILENO;
 use libc::STDOUT_FILENO;
@@ -54,6 +55,16 @@ fn merge() {
     write(&out[..text_length], &line[..line_length]);
 }
 
+// The verb `spell`.
+fn spell() {
+    let mut out = [0u8; 32768];
+    let mut line = [0u8; 192];
+    let report = spell_of(b"policy.txt", &mut out, &mut line);
+    let text_length = report.text;
+    let line_length = report.line;
+    write(&out[..text_length], &line[..line_length]);
+}
+
 fn main() {
     let mut word = [0u8; 16];
     let length = os::arg(1, &mut word);
@@ -66,5 +77,8 @@ fn main() {
     }
     if same(verb, b"merge") {
         merge();
+    }
+    if same(verb, b"spell") {
+        spell();
     }
 }

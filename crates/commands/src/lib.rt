@@ -1,6 +1,7 @@
-// The commands `sum` and `merge` over named files: all are read before any is judged, and the text and the line are made.
+// The commands `sum`, `merge` and `spell` over named files: all are read before any is judged, and the text and the line are made.
 ghost use Rattle.io.specs.Counts.{Counts};
 use files::load;
+use noting::spell_report;
 use reporting::Report;
 use reporting::first_missing;
 use reporting::merge_report;
@@ -65,6 +66,21 @@ pub fn merge_of(
         &typing_1[..typing_1_length],
         &policy_2[..policy_2_length],
         &typing_2[..typing_2_length],
+        out,
+        line,
+    )
+}
+
+// The same of `spell`, for a policy file.
+pub fn spell_of(policy_name: &[u8], out: &mut [u8], line: &mut [u8]) -> Report
+    ensures { λ r. ⌜ Counts (r .text) (now (out .exit)) × Counts (r .line) (now (line .exit)) ⌝ }
+{
+    let mut policy = [0u8; 32769];
+    let one = load(policy_name, &mut policy);
+    let length = one.count;
+    spell_report(
+        first_missing(one.read, true, true, true),
+        &policy[..length],
         out,
         line,
     )

@@ -3,6 +3,7 @@
 ghost use Prim.Native.Nat.{_≤_};
 ghost use Rattle.io.specs.Counts.{Counts};
 use commands::merge_of;
+use commands::spell_of;
 use commands::sum_of;
 use libc::STDOUT_FILENO;
 use program::line_of;
@@ -29,6 +30,14 @@ fn run_verb(verb: &[u8], one: &[u8], two: &[u8], three: &[u8], four: &[u8]) {
     }
     if same(verb, b"sum") {
         let report = sum_of(one, two, three, &mut out, &mut line);
+        let text_length = report.text;
+        let line_length = report.line;
+        io::write_all(STDOUT_FILENO, &line[..line_length]);
+        io::write_all(STDOUT_FILENO, &out[..text_length]);
+        return;
+    }
+    if same(verb, b"spell") {
+        let report = spell_of(one, &mut out, &mut line);
         let text_length = report.text;
         let line_length = report.line;
         io::write_all(STDOUT_FILENO, &line[..line_length]);

@@ -36,18 +36,18 @@ missing-none true true true true = (λ is. (refl, refl, refl, refl), λ all. ref
 
 -- ---- the first letter of a line
 
-abbrev letter : Outcome (List ℕ) → ℕ
+abbrev pub letter : Outcome (List ℕ) → ℕ
 letter outcome = getD (answerIn outcome) 0 0
 
 -- What the first letter says of an answer: the letter of success, or another, which is not that of NOFILE.
-record Tells (success : ℕ) (works : Bool) (first : ℕ) : Type 0 where
-  succeeds : first ≡ success ↔ works ≡ true
-  named : first ≡ 78 → ⊥
+pub record Tells (success : ℕ) (works : Bool) (first : ℕ) : Type 0 where
+  pub succeeds : first ≡ success ↔ works ≡ true
+  pub named : first ≡ 78 → ⊥
 
-works-so : {success : ℕ} → (success ≡ 78 → ⊥) → Tells success true success
+pub works-so : {success : ℕ} → (success ≡ 78 → ⊥) → Tells success true success
 works-so other = record { succeeds = (λ is. refl, λ is. refl); named = other }
 
-fails-so : {success first : ℕ} → (first ≡ success → ⊥) → (first ≡ 78 → ⊥) → Tells success false first
+pub fails-so : {success first : ℕ} → (first ≡ success → ⊥) → (first ≡ 78 → ⊥) → Tells success false first
 fails-so not-success not-missing = record { succeeds = (λ is. absurd (not-success is), λ is. absurd (false≢true is)); named = not-missing }
 
 -- what it says where files may be missing
@@ -57,7 +57,7 @@ module _ {missing success : ℕ} {works : Bool} {report said : Outcome (List ℕ
   unfolding answerIn
   unread no-all = ap letter (gone no-all) ∙ first
 
-  reported : letter report ≡ success ↔ (missing ≡ 0) × (works ≡ true)
+  pub reported : letter report ≡ success ↔ (missing ≡ 0) × (works ≡ true)
   reported = go (eqb missing 0) refl
     where
       go : (b : Bool) → eqb missing 0 ≡ b → letter report ≡ success ↔ (missing ≡ 0) × (works ≡ true)
@@ -66,7 +66,7 @@ module _ {missing success : ℕ} {works : Bool} {report said : Outcome (List ℕ
           (λ is. (all, tells .succeeds .0 (sym (ap letter (there all)) ∙ is)), λ so. ap letter (there all) ∙ tells .succeeds .1 (so .1))
       go false e = (λ is. absurd (other (sym is ∙ unread (eqb-false missing 0 e))), λ so. absurd (eqb-false missing 0 e (so .0)))
 
-  nofile : letter report ≡ 78 ↔ (missing ≡ 0 → ⊥)
+  pub nofile : letter report ≡ 78 ↔ (missing ≡ 0 → ⊥)
   nofile = (λ is all. tells .named (sym (ap letter (there all)) ∙ is), unread)
 
 -- ---- a sum
@@ -113,7 +113,7 @@ module _ (missing : ℕ) (policy₁ typing₁ policy₂ typing₂ : List ℕ) (r
 
 -- ---- how long a line is
 
-missing-length : (mention : Mention) (which : ℕ) → length (missingLine mention which) ≤ 192
+pub missing-length : (mention : Mention) (which : ℕ) → length (missingLine mention which) ≤ 192
 unfolding missingLine
 missing-length mention which = simp length-append (omega (arith, mention-length mention which))
 
@@ -129,7 +129,7 @@ merge-length (MergeAnswer.Merged roles assigns revokes goals pinned written) =
 merge-length (MergeAnswer.Unproved which part number) = simp length-append (omega (arith, part-length part, decimal-length number, mention-length Mention.Judging which))
 merge-length (MergeAnswer.Refused which number line) = simp length-append (omega (arith, decimal-length number, decimal-length line, mention-length Mention.MergeText which))
 
-words-length : {A : Type 0} (words : A → List ℕ) → ((answer : A) → length (words answer) ≤ 192) → (outcome : Outcome A) → length (answerIn (inWords words outcome)) ≤ 192
+pub words-length : {A : Type 0} (words : A → List ℕ) → ((answer : A) → length (words answer) ≤ 192) → (outcome : Outcome A) → length (answerIn (inWords words outcome)) ≤ 192
 unfolding inWords answerIn
 words-length words few (leaves answer) = few answer
 words-length words few (writes answer text) = few answer
