@@ -1,12 +1,13 @@
 // The line of an entry, written field after field from a place of a lent buffer on, in the room that it takes.
 ghost use mathlib.Core.List.{[], _∷_, _++_};
+ghost use mathlib.Core.Path.{_≡_};
 ghost use Prim.Native.Nat.{_+_, _*_, _≤_};
 ghost use lib.ListN.{length};
 ghost use Rattle.ledgers.specs.Ledger.{ledgerWords};
 ghost use Rattle.lines.specs.declared.Entry.{Entry};
 ghost use Rattle.reading.specs.Ledger.{Limited};
 ghost use Rattle.tables.specs.Names.{rows};
-ghost use Rattle.writing.specs.Written.{spelled};
+ghost use Rattle.writing.specs.Written.{spelled, put};
 ghost use Rattle.showing.specs.Fields.{field};
 ghost use Rattle.spelling.specs.TypingText.{setText};
 ghost use Rattle.inscribing.specs.LineText.{lineText};
@@ -131,11 +132,19 @@ fn write_entry(out: &mut [u8], at: usize, ledger: &[u64], c: Counts, entry: Entr
     }
 }
 
-// Writes an entry's line from a place on, and answers the place past it.
+// Puts an entry's line at the start of a buffer, and answers how many bytes it has.
+fn put_line(out: &mut [u8], ledger: &[u64], c: Counts, entry: Entry) -> usize
+    requires { ⌜ (ledgerWords ≤ length (now ledger)) × Limited c × (length (linesIn (now ledger) c (entry ∷ [])) ≤ length (now out)) ⌝ }
+    ensures { λ r. ⌜ (r ≡ length (linesIn (now (ledger .entry)) c (entry ∷ []))) × (now (out .exit) ≡ put (linesIn (now (ledger .entry)) c (entry ∷ [])) (now (out .entry))) ⌝ }
+{
+    let end = write_entry(out, 0, ledger, c, entry);
+    end_line(out, end)
+}
+
+// Writes an entry's line from a place on, into the part of the buffer still free, and answers the place past it.
 pub fn write_line(out: &mut [u8], at: usize, ledger: &[u64], c: Counts, entry: Entry) -> usize
     requires { ⌜ (ledgerWords ≤ length (now ledger)) × Limited c × (at + length (linesIn (now ledger) c (entry ∷ [])) ≤ length (now out)) ⌝ }
     ensures { λ r. ⌜ Adds (linesIn (now (ledger .entry)) c (entry ∷ [])) at (now (out .entry)) r (now (out .exit)) ⌝ }
 {
-    let end = write_entry(out, at, ledger, c, entry);
-    end_line(out, end)
+    at + put_line(&mut out[at..], ledger, c, entry)
 }

@@ -1,29 +1,38 @@
--- `write_line` puts the LF past the line.
+-- `write_line` puts the line into the rest of the buffer.
 use borrow.Author.Needs.{needs}
-use Prim.Native.Nat.{_+_, _≤_}
-use lib.ListN.{length}
-use mathlib.Core.Path.{ap}
-use native.Mathlib.Omega.{arith}
-use Rattle.text.specs.Forms.{bytes}
-use Rattle.inscribing.specs.LineLaws.{lineIn, line-in}
-use Rattle.inscribing.specs.Adding.{both-room, adds-as, adds-both}
+use Rattle.inscribing.specs.Adding.{adds-piece}
 use Rattle.inscribing.proofs.write_line.Statement.{statement}
 use Rattle.inscribing.proofs.write_line.Tie as tie
 
-fits : (c : tie.Start) → c .args .at + length (lineIn (c .args .ledger .now) (c .args .c) (c .args .entry)) + 1 ≤ length (c .args .out .now)
-fits c = both-room (c .args .at) (lineIn (c .args .ledger .now) (c .args .c) (c .args .entry)) (bytes "\n") (omega (arith, c .pre .2, ap length (line-in (c .args .ledger .now) (c .args .c) (c .args .entry))))
+sub-put-line : tie.Need-sub-put-line
+sub-put-line c = search needs
 
-write-entry-requires : tie.Need-write-entry-requires
-write-entry-requires c κs = (c .before .before .before .pre .0, c .before .before .before .pre .1, omega (arith, fits (c .before .before .before)))
+part-put-line-start : tie.Need-part-put-line-start
+part-put-line-start c = search needs
 
-end-line-requires : tie.Need-end-line-requires
-end-line-requires c κs = omega (arith, fits (c .before .before .before .before .before .before .before))
+part-put-line-end : tie.Need-part-put-line-end
+part-put-line-end c = search needs
+
+put-line-requires : tie.Need-put-line-requires
+put-line-requires c κs = search needs
+
+add-result : tie.Need-add-result
+add-result c = search needs
 
 same-length : tie.Need-same-length
 same-length c = search needs
 
 returns : tie.Need-returns
-returns c = adds-as (line-in _ _ _) (adds-both (c .before .before .before .before .before .before .write-entry .ensures) (c .before .before .end-line .ensures))
+returns c = adds-piece (c .before .before .put-line .ensures)
 
 pub write-line-spec : {M : Type 1} → statement M
-write-line-spec = tie.close (tie.spec write-entry-requires end-line-requires same-length returns)
+write-line-spec =
+    tie.close
+    (tie.spec
+    sub-put-line
+    part-put-line-start
+    part-put-line-end
+    put-line-requires
+    add-result
+    same-length
+    returns)
