@@ -10,7 +10,7 @@ use Rattle.text.specs.Forms.{bytes}
 use Rattle.text.specs.Pieces.{split}
 use Rattle.lines.specs.Lines.{goalKind}
 use Rattle.reading.specs.Policy.{Said}
-use Rattle.reading.specs.Sound.{Sound}
+use Rattle.reading.specs.SoundRules.{Sound}
 use Rattle.drafting.specs.PolicyText.{policyText}
 
 -- ---- texts alike

@@ -26,7 +26,7 @@ use Rattle.inscribing.specs.LineText.{lineText}
 use Rattle.drafting.specs.PolicyText.{heldFrom, blockSize, element}
 use Rattle.measuring.specs.Growth.{old-at, new-at, one-longer, cleared}
 use Rattle.reordering.specs.Alike.{Inserted}
-use Rattle.reordering.specs.Picked.{gathered, gathered-same, gathered-put, picked, picked-none, picked-put}
+use Rattle.reordering.specs.Picked.{gathered, gathered-same, gathered-put, picked, picked-none, picked-put, picked-map}
 use Rattle.reordering.specs.WrittenLines.{elementLines, written, headed, headed-past, beforeOf, afterOf}
 
 -- ---- one element more
@@ -46,18 +46,15 @@ no-block : (s : Said) (block : Block) → blockSize s block ≡ 0 → written s 
 unfolding written gathered
 no-block s block none = ap (gathered (elementLines s block)) none
 
--- the has lines of a user
+-- the has lines of a user, by the places of the user's roles
+pub held-picked : (user role : ℕ) (held : RoleSet) (names : List Name) → heldFrom user role held names ≡ picked (Entry.Has user) role (length names) held
+unfolding heldFrom picked
+held-picked user role held [] = refl
+held-picked user role held (name ∷ names) = ap (λ (l : List Entry). cond (hasRole held role) (Entry.Has user role ∷ l) l) (held-picked user (suc role) held names)
+
 held-lines : (roles users : List Name) (user role : ℕ) (held : RoleSet) (names : List Name)
     → map (lineText roles users) (heldFrom user role held names) ≡ picked (λ (r : ℕ). lineText roles users (Entry.Has user r)) role (length names) held
-unfolding heldFrom picked
-held-lines roles users user role held [] = refl
-held-lines roles users user role held (name ∷ names) = go (hasRole held role) (held-lines roles users user (suc role) held names)
-  where
-    go : (b : Bool) → map (lineText roles users) (heldFrom user (suc role) held names) ≡ picked (λ (r : ℕ). lineText roles users (Entry.Has user r)) (suc role) (length names) held
-        → map (lineText roles users) (cond b (Entry.Has user role ∷ heldFrom user (suc role) held names) (heldFrom user (suc role) held names))
-        ≡ cond b (lineText roles users (Entry.Has user role) ∷ picked (λ (r : ℕ). lineText roles users (Entry.Has user r)) (suc role) (length names) held) (picked (λ (r : ℕ). lineText roles users (Entry.Has user r)) (suc role) (length names) held)
-    go true below = ap (λ (l : List (List ℕ)). lineText roles users (Entry.Has user role) ∷ l) below
-    go false below = below
+held-lines roles users user role held names = ap (map (lineText roles users)) (held-picked user role held names) ∙ picked-map (lineText roles users) (Entry.Has user) role (length names) held
 
 -- ---- each kind of entry
 

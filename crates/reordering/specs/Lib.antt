@@ -16,3 +16,5 @@ pub mod Growing
 pub mod ReadLines
 pub mod Read
 pub mod Exactly
+pub mod InOrder
+pub mod InOrderExact

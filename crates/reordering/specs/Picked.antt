@@ -1,7 +1,7 @@
 -- Lists by places: what stands at the places below a number, and what stands at the places of a set's roles.
 use Prim.Native.Nat.{ℕ, zero, suc, _+_, _≤_, _<_}
 use mathlib.Core.Bool.{Bool, true, false, cond, _||_}
-use mathlib.Core.List.{List, [], _∷_, _++_}
+use mathlib.Core.List.{List, [], _∷_, _++_, map}
 use mathlib.Core.Path.{_≡_, refl, sym, ap, ap₂, subst, _∙_}
 use borrow.Author.Tests.{eqb-true, eqb-false, eq-eqb, ne-eqb}
 use lib.Dec.{eqb}
@@ -103,3 +103,13 @@ module _ {A : Type 0} where
         where
           later : (place ≡ role → ⊥) → suc place ≤ role
           later differ = omega (arith, from, differ)
+
+-- what is made of each of them
+pub picked-map : {A B : Type 0} (g : A → B) (f : ℕ → A) (place count : ℕ) (set : RoleSet) → map g (picked f place count set) ≡ picked (λ (r : ℕ). g (f r)) place count set
+unfolding picked
+picked-map g f place zero set = refl
+picked-map {A} {B} g f place (suc count) set = go (hasRole set place) (picked f (suc place) count set) (picked-map g f (suc place) count set)
+  where
+    go : (b : Bool) (some : List A) {made : List B} → map g some ≡ made → map g (cond b (f place ∷ some) some) ≡ cond b (g (f place) ∷ made) made
+    go true some same = ap (λ (l : List B). g (f place) ∷ l) same
+    go false some same = same

@@ -32,7 +32,7 @@ use Rattle.reordering.specs.Picked.{picked, picked-none, picked-put}
 -- ---- the names of a set in role order
 
 -- by the places of its roles, where the first name is the role of a number
-names-picked : (table names : List Name) (role : ℕ) (set : RoleSet) → ((k : ℕ) → nameAt names k ≡ nameAt table (role + k)) → namesFrom role set names ≡ picked (λ (r : ℕ). spelled (nameAt table r)) role (length names) set
+pub names-picked : (table names : List Name) (role : ℕ) (set : RoleSet) → ((k : ℕ) → nameAt names k ≡ nameAt table (role + k)) → namesFrom role set names ≡ picked (λ (r : ℕ). spelled (nameAt table r)) role (length names) set
 unfolding namesFrom picked nameAt
 names-picked table [] role set same = refl
 names-picked table (name ∷ names) role set same =
@@ -108,7 +108,7 @@ pieces-ordered (Reordered.put rest Inserted.here) = Reordered.put rest Inserted.
 pieces-ordered (Reordered.put rest (Inserted.there one)) = Reordered.put rest (Inserted.there one)
 
 -- the names of a set that is written
-written-names : {table : List Name} → Named table → (set : RoleSet) → namesOf (setText table set) ≡ namesFrom 0 set table
+pub written-names : {table : List Name} → Named table → (set : RoleSet) → namesOf (setText table set) ≡ namesFrom 0 set table
 unfolding setText
 written-names {table} named set = names-back (namesFrom 0 set table) (each-written table set isName (λ name spelt here has. spelled-form spelt) (standing named))
 
