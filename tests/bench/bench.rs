@@ -26,7 +26,8 @@ mod texts;
 use answers::Said;
 use chance::Chance;
 use library::Memory;
-use texts::{crowded, every_place, full, halves, read_only, sum_of, trace, twice};
+use texts::{crowded, every_place, full, full_of_has, full_of_sets, halves, only_read, read_only};
+use texts::{spelt, sum_of, trace, twice};
 use texts::{Closing, Input, TEXT_LIMIT};
 
 /// A time is the median of at least this many calls.
@@ -88,13 +89,14 @@ impl Lent {
 }
 
 /// So many words of memory, where there is some.
-fn words(memory: &mut Option<Vec<u64>>, count: usize) -> Memory {
+fn words(memory: &mut Option<Vec<u64>>, count: usize) -> Memory<'_> {
     memory.as_mut().map(|memory| &mut memory[..count])
 }
 
 fn ask_library(texts: &[Vec<u8>], lent: &mut Lent) {
     let Lent { values, out, memory, answered } = lent;
     *answered = match texts {
+        [policy] => library::spell(policy, out, values, words(memory, answers::MEMORY)),
         [policy, evidence] => {
             library::check(policy, evidence, values, words(memory, answers::MEMORY))
         }
@@ -105,7 +107,7 @@ fn ask_library(texts: &[Vec<u8>], lent: &mut Lent) {
             let memory = words(memory, answers::MERGE_MEMORY);
             library::merge(policy_1, typing_1, policy_2, typing_2, out, values, memory)
         }
-        _ => unreachable!("two texts, three or four"),
+        _ => unreachable!("one text to four"),
     };
 }
 
@@ -114,16 +116,18 @@ enum Answer {
     Check(reference::Answer),
     Sum(reference::Sum),
     Merge(reference::Merge),
+    Spell(reference::Spelling),
 }
 
 fn ask_reference(texts: &[Vec<u8>]) -> Answer {
     match texts {
+        [policy] => Answer::Spell(reference::spell(policy, TEXT_LIMIT)),
         [policy, evidence] => Answer::Check(reference::check(policy, evidence)),
         [policy, first, second] => Answer::Sum(reference::sum(policy, first, second, TEXT_LIMIT)),
         [policy_1, typing_1, policy_2, typing_2] => {
             Answer::Merge(reference::merge(policy_1, typing_1, policy_2, typing_2, TEXT_LIMIT))
         }
-        _ => unreachable!("two texts, three or four"),
+        _ => unreachable!("one text to four"),
     }
 }
 
@@ -133,6 +137,7 @@ impl Answer {
             Answer::Check(answer) => Said::check(answer),
             Answer::Sum(answer) => Said::sum(answer),
             Answer::Merge(answer) => Said::merge(answer),
+            Answer::Spell(answer) => Said::spell(answer),
         }
     }
 }
@@ -232,11 +237,17 @@ fn print_times(inputs: &[Input], library: &mut Library) -> Vec<Times> {
     all
 }
 
-/// The library's times for each input as multiples of its times for another one.
-fn print_multiples(inputs: &[Input], times: &[Times], one: &Times) {
-    println!("| texts | times the reading of a full policy | in lent memory |");
+/// The library's times for each input as multiples of its times for another one, which the heading
+/// names.
+fn print_multiples<'a>(
+    heading: &str,
+    inputs: &[Input],
+    times: &[Times],
+    ones: impl IntoIterator<Item = &'a Times>,
+) {
+    println!("| texts | {} | in lent memory |", heading);
     println!("|---|---|---|");
-    for (input, times) in inputs.iter().zip(times) {
+    for ((input, times), one) in inputs.iter().zip(times).zip(ones) {
         println!(
             "| {} | {} | {} |",
             input.name,
@@ -330,11 +341,17 @@ fn ask_bad_typing_line(texts: &[Vec<u8>], lent: &mut Lent) {
 
 /// Prints the stack of every function on ordinary texts and on the same with a hostile one in every
 /// place, and tells which promises are broken.
-fn print_stacks(checks: &[Input], merges: &[Input], hostile: &[(String, Vec<u8>)]) -> Vec<String> {
+fn print_stacks(
+    checks: &[Input],
+    merges: &[Input],
+    spellings: &[Input],
+    hostile: &[(String, Vec<u8>)],
+) -> Vec<String> {
     let sums: Vec<Input> = merges.iter().map(sum_of).collect();
     let sums = every_place(&sums, hostile);
     let checks = every_place(checks, hostile);
     let merges = every_place(merges, hostile);
+    let spellings = every_place(spellings, hostile);
     let promises = ["ARBAC_STACK", "ARBAC_LENT_STACK"];
     let calls = [
         Call {
@@ -371,6 +388,12 @@ fn print_stacks(checks: &[Input], merges: &[Input], hostile: &[(String, Vec<u8>)
             names: ["merge", "merge_in"],
             promises: ["ARBAC_MERGE_STACK", "ARBAC_LENT_MERGE_STACK"],
             inputs: &merges,
+            ask: ask_library,
+        },
+        Call {
+            names: ["spell", "spell_in"],
+            promises: promises,
+            inputs: &spellings,
             ask: ask_library,
         },
     ];
@@ -431,6 +454,13 @@ fn main() {
     ];
     let merge = [halves(128, Closing::OneRound), halves(128, Closing::ManyRounds)];
     let sum: Vec<Input> = merge.iter().map(sum_of).collect();
+    let spell = [
+        spelt("the desk", &check[0]),
+        spelt("128 roles", &full(128, Closing::OneRound)),
+        full_of_has(),
+        full_of_sets(),
+    ];
+    let reading: Vec<Input> = spell.iter().map(|input| only_read(&input.name, input)).collect();
     let hostile: Vec<Input> = HOSTILE
         .iter()
         .map(|(policy, evidence)| {
@@ -455,10 +485,17 @@ fn main() {
     print_times(&sum, &mut library);
     println!("\n## Merge\n");
     print_times(&merge, &mut library);
+    println!("\n## Spelling\n");
+    let written = print_times(&spell, &mut library);
+    println!();
+    let only_read = print_times(&reading, &mut library);
+    println!();
+    print_multiples("times the reading of the same policy", &spell, &written, &only_read);
     println!("\n## Hostile texts\n");
     let attacked = print_times(&hostile, &mut library);
     println!();
-    print_multiples(&hostile, &attacked, &checked[READ_ONLY]);
+    let full = std::iter::repeat(&checked[READ_ONLY]);
+    print_multiples("times the reading of a full policy", &hostile, &attacked, full);
 
     println!("\n## Growth with the number of roles\n");
     for inputs in &growth {
@@ -469,7 +506,10 @@ fn main() {
     println!("## Stack\n");
     let checks = [check.to_vec(), growth.concat()].concat();
     let merges = [checks.iter().map(twice).collect(), merge.to_vec()].concat();
-    let broken = print_stacks(&checks, &merges, &hostile_texts(folder, &desk, &t1));
+    let spellings = checks.iter().map(|check| spelt(&check.name, check)).collect();
+    let spellings = [spellings, spell.to_vec()].concat();
+    let hostile = hostile_texts(folder, &desk, &t1);
+    let broken = print_stacks(&checks, &merges, &spellings, &hostile);
     for broken in &broken {
         println!("{}", broken);
     }

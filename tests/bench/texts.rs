@@ -1,11 +1,11 @@
 //! The texts that are measured: policies of any size with typings that close in one round or in
-//! many, a long trace, and ordinary texts with a hostile one among them.
+//! many, a long trace, policies to be spelt, and ordinary texts with a hostile one among them.
 
 use crate::drafts::{Assign, Policy, Revoke, RoleType, Step, User};
 
 pub const TEXT_LIMIT: usize = 32_768;
 
-/// Two texts for `check`, three for `sum`, or four for `merge`.
+/// One text for `spell`, two for `check`, three for `sum`, or four for `merge`.
 #[derive(Clone)]
 pub struct Input {
     pub name: String,
@@ -121,12 +121,66 @@ pub fn full(roles: usize, closing: Closing) -> Input {
 
 /// A full policy whose last line is `END`: it is read whole and refused there, so nothing is judged.
 pub fn read_only(roles: usize) -> Input {
-    let mut input = full(roles, Closing::OneRound);
-    let policy = &mut input.texts[0];
-    let last = policy.len() - b"end\n".len();
-    policy[last..].copy_from_slice(b"END\n");
-    input.name = format!("{} roles, only read: refused at the last line", roles);
-    input
+    only_read(&format!("{} roles", roles), &full(roles, Closing::OneRound))
+}
+
+/// The same of the policy of any input; where it has no evidence, that is empty.
+pub fn only_read(name: &str, input: &Input) -> Input {
+    let mut texts = input.texts.clone();
+    texts.resize(2, Vec::new());
+    let last = texts[0].len() - b"end\n".len();
+    texts[0][last..].copy_from_slice(b"END\n");
+    Input { name: format!("{}, only read: refused at the last line", name), texts: texts }
+}
+
+/// The policy of an input for `check`, to be spelt.
+pub fn spelt(name: &str, check: &Input) -> Input {
+    Input::new(name, &[&check.texts[0]])
+}
+
+/// A ground of 128 roles and 64 users with names of two bytes, in which nobody holds anything, and
+/// a goal.
+fn short_ground() -> Policy {
+    let name = |place: usize| format!("{:02x}", place).into_bytes();
+    Policy {
+        roles: (0..128).map(name).collect(),
+        users: (0..64).map(|place| User { name: name(place), high: false }).collect(),
+        has: Vec::new(),
+        assigns: Vec::new(),
+        revokes: Vec::new(),
+        goals: vec![vec![0]],
+    }
+}
+
+/// A policy to be spelt with as many has lines as it has room for, by role first and from the last
+/// to the first.
+pub fn full_of_has() -> Input {
+    let mut policy = short_ground();
+    let room = TEXT_LIMIT - policy.text().len();
+    let pairs = policy.users.len() * policy.roles.len();
+    let lines = room / b"has\tuu\trr\n".len();
+    for place in (0..lines).rev() {
+        let pair = place * pairs / lines;
+        policy.has.push((pair % policy.users.len(), pair / policy.users.len()));
+    }
+    Input::new("full of has lines, by role first", &[&policy.text()])
+}
+
+/// A policy to be spelt with as many names in sets as it has room for, from the last role to the
+/// first.
+pub fn full_of_sets() -> Input {
+    let mut policy = short_ground();
+    let all: Vec<usize> = (0..policy.roles.len()).rev().collect();
+    policy.goals = vec![all.clone(); 32];
+    loop {
+        let mut more = policy.clone();
+        let (positive, negative) = (all.clone(), all.clone());
+        more.assigns.push(Assign { admin: 0, positive: positive, negative: negative, target: 1 });
+        if more.text().len() > TEXT_LIMIT {
+            return Input::new("full of sets, from the last role", &[&policy.text()]);
+        }
+        policy = more;
+    }
 }
 
 /// Two policies of one ground with half of the rules and goals each.

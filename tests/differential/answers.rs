@@ -1,6 +1,6 @@
 //! What the library has to say where the reference has a certain answer.
 
-use crate::reference::{self, Answer, BadLine, Merge, Sum};
+use crate::reference::{self, Answer, BadLine, Merge, Spelling, Sum};
 
 /// What a call returns where the array is too short.
 const NO_ROOM: u64 = 255;
@@ -13,6 +13,7 @@ pub const CHECK: usize = 5;
 pub const BAD_LINE: usize = 2;
 pub const SUM: usize = 2;
 pub const MERGE: usize = 6;
+pub const SPELL: usize = 1;
 
 /// How many words of memory each call needs, and a merge.
 pub const MEMORY: usize = 3072;
@@ -95,6 +96,15 @@ impl Said {
             Merge::Refused { number, line, which } => {
                 Said::values(number, MERGE, vec![which, line])
             }
+        }
+    }
+
+    pub fn spell(answer: &Spelling) -> Said {
+        match *answer {
+            Spelling::Done { length, ref text } => {
+                Said { text: text.clone(), ..Said::values(0, SPELL, vec![length]) }
+            }
+            Spelling::Refused { number, line } => Said::values(number, SPELL, vec![line]),
         }
     }
 }

@@ -9,6 +9,7 @@ mod counts;
 mod damaged;
 mod lengths;
 mod merges;
+mod reorderings;
 mod spellings;
 mod sums;
 
@@ -33,8 +34,11 @@ enum Way {
     AtLimit(fn(&mut Chance, usize) -> Case),
 }
 
+/// The cases from 1 to this number are those of document 01; the others are for `spell`.
+const BASE: u64 = 210_000;
+
 /// The ways, and how many of a thousand cases in a row are made so.
-const WAYS: [(usize, Way); 16] = [
+const BASE_WAYS: [(usize, Way); 16] = [
     (195, Way::Random("a typing", checks::typing)),
     (15, Way::Random("a typing that is a chain of all roles", checks::chain)),
     (182, Way::Random("a trace", checks::trace)),
@@ -53,17 +57,35 @@ const WAYS: [(usize, Way); 16] = [
     (5, Way::AtLimit(lengths::length)),
 ];
 
+/// The same for `spell`.
+const SPELL_WAYS: [(usize, Way); 6] = [
+    (490, Way::Random("a policy to be spelt", reorderings::spell)),
+    (445, Way::Random("a damaged policy to be spelt", damaged::spell)),
+    (40, Way::AtLimit(counts::spelt_count)),
+    (5, Way::AtLimit(counts::all_counts_spelt)),
+    (10, Way::AtLimit(lengths::spelt_length)),
+    (10, Way::AtLimit(reorderings::full_of_has)),
+];
+
 /// One random case in so many is wide.
 const WIDE: usize = 3;
 
 /// The case of a number. Way and width go by the number, so that every run of thousands has all of
 /// them in the same shares.
 pub fn case(chance: &mut Chance, number: u64) -> Case {
-    let all: usize = WAYS.iter().map(|way| way.0).sum();
-    let mut left = number as usize % all;
-    for (weight, way) in &WAYS {
+    if number <= BASE {
+        made_in_turn(chance, &BASE_WAYS, number as usize)
+    } else {
+        made_in_turn(chance, &SPELL_WAYS, (number - BASE) as usize)
+    }
+}
+
+fn made_in_turn(chance: &mut Chance, ways: &[(usize, Way)], number: usize) -> Case {
+    let all: usize = ways.iter().map(|way| way.0).sum();
+    let mut left = number % all;
+    for (weight, way) in ways {
         if left < *weight {
-            return made(chance, way, number as usize / all * weight + left);
+            return made(chance, way, number / all * weight + left);
         }
         left -= weight;
     }

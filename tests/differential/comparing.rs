@@ -7,7 +7,7 @@ use crate::chance::Chance;
 use crate::lent::{shown_array, shown_buffer, Lent, LentText};
 use crate::library::{self, Memory};
 use crate::making::widening::Width;
-use crate::reference::{self, Answer};
+use crate::reference::{self, Answer, Spelling};
 use crate::rows;
 use crate::tally::Tally;
 use crate::texts::{Texts, TEXT_LIMIT};
@@ -42,6 +42,14 @@ const MERGE_ROOMS: Rooms = [
     "merge buffer one byte short",
     "merge buffer shorter",
     "merge buffer empty",
+];
+
+const SPELL_ROOMS: Rooms = [
+    "spell buffer exact",
+    "spell buffer longer",
+    "spell buffer one byte short",
+    "spell buffer shorter",
+    "spell buffer empty",
 ];
 
 /// The rows for a buffer with room for a text that is longer than a text may be.
@@ -169,6 +177,25 @@ const MERGE: Told = Told {
     },
     short_in_memory: "merge array too short beside memory",
 };
+const SPELL: Told = Told {
+    call: "arbac_spell",
+    least: answers::SPELL,
+    // an array that is too short for one number has none
+    one_short: "spell array empty",
+    shorter: "spell array empty",
+    in_memory: InMemory {
+        call: "arbac_spell_in",
+        least: answers::MEMORY,
+        lengths: [
+            "spell memory exact",
+            "spell memory longer",
+            "spell memory one word short",
+            "spell memory shorter",
+            "spell memory empty",
+        ],
+    },
+    short_in_memory: "spell array too short beside memory",
+};
 
 /// The library's function on the texts of the case: it gets the lent buffer, the lent array and the
 /// lent memory.
@@ -205,8 +232,12 @@ impl Lending {
     }
 }
 
-/// A buffer with room for every sum, also for one that is longer than a text may be.
+/// A buffer with room for every sum, also for one that is longer than a text may be, and for every
+/// spelling.
 const AMPLE: usize = 1 << 20;
+
+/// Lengths of buffers where no text is to be written.
+const ANY_ROOMS: [usize; 4] = [0, 1, 50, 400];
 
 /// Gives one case to both sides. What chance decides here is what is lent.
 pub fn compare(chance: &mut Chance, tally: &mut Tally, case: &Case) -> Vec<Difference> {
@@ -229,6 +260,7 @@ pub fn compare(chance: &mut Chance, tally: &mut Tally, case: &Case) -> Vec<Diffe
         Texts::Check { .. } => comparing.check(text(0), text(1)),
         Texts::Sum { .. } => comparing.sum(text(0), text(1), text(2)),
         Texts::Merge { .. } => comparing.merge(text(0), text(1), text(2), text(3)),
+        Texts::Spell { .. } => comparing.spell(text(0), text(1), text(2)),
     }
     comparing.differences
 }
@@ -318,6 +350,44 @@ impl<'a> Comparing<'a> {
         });
     }
 
+    /// The policy's spelling. Where there is one, its text in another order and the spelling itself
+    /// are spelt alike, and the spelling is checked as the policy is.
+    fn spell(&mut self, policy: &[u8], reordered: &[u8], evidence: &[u8]) {
+        self.spelt(policy, policy);
+        match reference::spell(policy, AMPLE) {
+            Spelling::Done { text, .. } => {
+                let spelling = LentText::new(self.chance, "spelling", &text);
+                let spelling = spelling.part();
+                self.count("a policy in another order, spelt alike");
+                self.spelt(reordered, policy);
+                self.count("a spelling that is spelt again");
+                self.spelt(spelling, policy);
+                self.count("a spelling that is checked");
+                let answer = reference::check(policy, evidence);
+                self.told(&CHECK, 0, &Said::check(&answer), &|_, values, memory| {
+                    library::check(spelling, evidence, values, memory)
+                });
+            }
+            Spelling::Refused { .. } => {
+                self.count("a refused policy in another order");
+                self.spelt(reordered, reordered);
+            }
+        }
+    }
+
+    /// The library spells one text, and the reference another that is to be spelt alike.
+    fn spelt(&mut self, policy: &[u8], alike: &[u8]) {
+        let room = match reference::spell(alike, AMPLE) {
+            Spelling::Done { text, .. } => self.room(text.len(), SPELL_ROOMS),
+            Spelling::Refused { .. } => self.chance.pick(&ANY_ROOMS),
+        };
+        let answer = reference::spell(alike, room);
+        self.count(rows::spell(policy, &answer));
+        self.told(&SPELL, room, &Said::spell(&answer), &|out, values, memory| {
+            library::spell(policy, out, values, memory)
+        });
+    }
+
     /// The length of the buffer that both sides are asked with, where the answer in an ample one is
     /// known: it goes by the text that is to be written; where that is longer than a text may be,
     /// there is room for it; and otherwise it goes by nothing.
@@ -328,7 +398,7 @@ impl<'a> Comparing<'a> {
                 self.count(above);
                 TEXT_LIMIT + self.chance.between(1, 40)
             }
-            _ => self.chance.pick(&[0, 1, 50, 400]),
+            _ => self.chance.pick(&ANY_ROOMS),
         }
     }
 
@@ -356,7 +426,8 @@ impl<'a> Comparing<'a> {
         if self.chance.one_in(16) {
             let one_short = self.chance.one_in(2);
             self.count(if one_short { told.one_short } else { told.shorter });
-            let array = if one_short { told.least - 1 } else { self.chance.below(told.least - 1) };
+            let fewer = (told.least - 1).max(1);
+            let array = if one_short { told.least - 1 } else { self.chance.below(fewer) };
             let lending = Lending::without_memory(array, room);
             self.call(told.call, lending, &Said::no_room(), call);
             self.count(told.short_in_memory);

@@ -29,7 +29,7 @@ use comparing::Difference;
 use tally::Tally;
 
 /// A run of so many cases is a whole one: it has to show every row of the table.
-const WHOLE: u64 = 200_000;
+const WHOLE: u64 = 240_000;
 
 /// A thread takes so many cases at a time.
 const TAKEN: u64 = 100;

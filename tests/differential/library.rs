@@ -65,4 +65,6 @@ functions! {
         (policy, first, second; out: u8, values: u64) -> u64;
     merge, arbac_merge, arbac_merge_in,
         (policy_1, typing_1, policy_2, typing_2; out: u8, values: u64) -> u64;
+    spell, arbac_spell, arbac_spell_in,
+        (policy; out: u8, values: u64) -> u64;
 }

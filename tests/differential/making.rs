@@ -4,6 +4,7 @@ pub mod damage;
 pub mod grounds;
 pub mod names;
 pub mod plain;
+pub mod reordering;
 pub mod rules;
 pub mod sets;
 pub mod steering;

@@ -1,6 +1,6 @@
 //! The row of the table that an answer counts in.
 
-use crate::reference::{Answer, BadLine, Merge, Sum};
+use crate::reference::{Answer, BadLine, Merge, Spelling, Sum};
 
 pub fn check(answer: &Answer) -> &'static str {
     match answer {
@@ -103,6 +103,21 @@ pub fn merge(answer: &Merge) -> &'static str {
             (0, 18) => "merge 18",
             (0, 19) => "merge 19",
             _ => panic!("document 01 has no such answer of merge"),
+        },
+    }
+}
+
+pub fn spell(policy: &[u8], answer: &Spelling) -> &'static str {
+    match answer {
+        Spelling::Done { text, .. } if text == policy => "spell 0, the text itself",
+        Spelling::Done { .. } => "spell 0, another text",
+        Spelling::Refused { number, .. } => match number {
+            10 => "spell 10",
+            11 => "spell 11",
+            12 => "spell 12",
+            13 => "spell 13",
+            20 => "spell 20",
+            _ => panic!("document 02 has no such answer of spell"),
         },
     }
 }

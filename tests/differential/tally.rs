@@ -20,7 +20,7 @@ struct Section {
 }
 
 /// Every row of the table.
-const SECTIONS: [Section; 8] = [
+const SECTIONS: [Section; 9] = [
     Section {
         heading: "Answers of check",
         either_width: true,
@@ -112,6 +112,23 @@ const SECTIONS: [Section; 8] = [
         ],
     },
     Section {
+        heading: "Answers of spell",
+        either_width: true,
+        rows: &[
+            "spell 0, the text itself",
+            "spell 0, another text",
+            "spell 10",
+            "spell 11",
+            "spell 12",
+            "spell 13",
+            "spell 20",
+            "a policy in another order, spelt alike",
+            "a refused policy in another order",
+            "a spelling that is spelt again",
+            "a spelling that is checked",
+        ],
+    },
+    Section {
         heading: "Lent buffers and arrays",
         either_width: true,
         rows: &[
@@ -130,6 +147,11 @@ const SECTIONS: [Section; 8] = [
             "merge buffer one byte short",
             "merge buffer shorter",
             "merge buffer empty",
+            "spell buffer exact",
+            "spell buffer longer",
+            "spell buffer one byte short",
+            "spell buffer shorter",
+            "spell buffer empty",
             "check array one number short",
             "check array shorter",
             "bad line array one number short",
@@ -140,6 +162,7 @@ const SECTIONS: [Section; 8] = [
             "sum array shorter",
             "merge array one number short",
             "merge array shorter",
+            "spell array empty",
         ],
     },
     Section {
@@ -176,11 +199,17 @@ const SECTIONS: [Section; 8] = [
             "merge memory one word short",
             "merge memory shorter",
             "merge memory empty",
+            "spell memory exact",
+            "spell memory longer",
+            "spell memory one word short",
+            "spell memory shorter",
+            "spell memory empty",
             "check array too short beside memory",
             "bad line array too short beside memory",
             "bad typing line array too short beside memory",
             "sum array too short beside memory",
             "merge array too short beside memory",
+            "spell array too short beside memory",
         ],
     },
     Section {
@@ -197,6 +226,8 @@ const SECTIONS: [Section; 8] = [
             "a damaged merge",
             "a merge over two grounds",
             "a text of another kind",
+            "a policy to be spelt",
+            "a damaged policy to be spelt",
         ],
     },
     Section {
@@ -239,6 +270,21 @@ const SECTIONS: [Section; 8] = [
             "merged sum of 32,769 bytes",
             "sum buffer with room for a text above 32,768 bytes",
             "merge buffer with room for a text above 32,768 bytes",
+            "128 roles to be spelt",
+            "129 roles to be spelt",
+            "64 users to be spelt",
+            "65 users to be spelt",
+            "256 assign lines to be spelt",
+            "257 assign lines to be spelt",
+            "256 revoke lines to be spelt",
+            "257 revoke lines to be spelt",
+            "32 goals to be spelt",
+            "33 goals to be spelt",
+            "all counts at their limits, to be spelt",
+            "policy of 32,768 bytes to be spelt",
+            "policy of 32,769 bytes to be spelt",
+            "has lines of 64 users and 128 roles up to 32,768 bytes",
+            "has lines of 64 users and 128 roles up to 32,769 bytes",
         ],
     },
 ];

@@ -7,6 +7,8 @@ pub enum Texts {
     Check { policy: Vec<u8>, evidence: Vec<u8> },
     Sum { policy: Vec<u8>, first: Vec<u8>, second: Vec<u8> },
     Merge { policy_1: Vec<u8>, typing_1: Vec<u8>, policy_2: Vec<u8>, typing_2: Vec<u8> },
+    /// The evidence is for `check`, over the policy and its spelling.
+    Spell { policy: Vec<u8>, reordered: Vec<u8>, evidence: Vec<u8> },
 }
 
 impl Texts {
@@ -23,6 +25,9 @@ impl Texts {
                 ("policy_2", policy_2),
                 ("typing_2", typing_2),
             ],
+            Texts::Spell { policy, reordered, evidence } => {
+                vec![("policy", policy), ("reordered", reordered), ("evidence", evidence)]
+            }
         }
     }
 
@@ -33,6 +38,7 @@ impl Texts {
             Texts::Merge { policy_1, typing_1, policy_2, typing_2 } => {
                 vec![policy_1, typing_1, policy_2, typing_2]
             }
+            Texts::Spell { policy, reordered, evidence } => vec![policy, reordered, evidence],
         }
     }
 }

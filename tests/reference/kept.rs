@@ -1,6 +1,7 @@
-//! `kept CRATES`: the reference on the texts that are kept in CRATES/cases and CRATES/joint_cases. The
-//! words of each crate's `args` say what is asked, and its file `stdout` what has to be answered.
-//! Prints each difference, then `N cases, M differ`. Status 0 when there are cases and none differs.
+//! `kept CRATES`: the reference on the texts that are kept in CRATES/cases, CRATES/joint_cases and
+//! CRATES/spell_cases. The words of each crate's `args` say what is asked, and its file `stdout`
+//! what has to be answered. Prints each difference, then `N cases, M differ`. Status 0 when there
+//! are cases and none differs.
 
 use std::fs;
 use std::path::{Path, PathBuf};
@@ -8,7 +9,7 @@ use std::path::{Path, PathBuf};
 #[allow(dead_code)]
 mod reference;
 
-use reference::{BadLine, Merge, Sum};
+use reference::{BadLine, Merge, Spelling, Sum};
 
 fn read(path: &Path) -> Vec<u8> {
     match fs::read(path) {
@@ -120,6 +121,20 @@ fn joined(kept: &Kept, words: &[String]) -> Said {
     Said::new(words[..3].join("\t"), &[line.as_bytes(), &text].concat())
 }
 
+/// Its name and the size of the buffer, the answer, how many bytes of the buffer are as they were,
+/// and the text.
+fn spelled(kept: &Kept, words: &[String]) -> Said {
+    let room: usize = words[1].parse().expect("the size of a buffer");
+    let (answer, text) = match reference::spell(&kept.text(&words[2]), room) {
+        Spelling::Done { length, text } => (format!("OK\t{}", length), text),
+        Spelling::Refused { number, line } => {
+            (format!("REFUSED\t{}\t{}", number, line), Vec::new())
+        }
+    };
+    let line = format!("{}\t{}\n", answer, room - text.len());
+    Said::new(words[..2].join("\t"), &[line.as_bytes(), &text].concat())
+}
+
 fn sum(answer: Sum) -> (String, Vec<u8>) {
     match answer {
         Sum::Done { pinned, length, text } => (format!("OK\t{}\t{}", pinned, length), text),
@@ -152,8 +167,8 @@ fn main() {
         std::process::exit(2);
     }
     let crates = PathBuf::from(&arguments[0]);
-    let kinds: [(&str, usize, fn(&Kept, &[String]) -> Said); 2] =
-        [("cases", 3, check), ("joint_cases", 7, joined)];
+    let kinds: [(&str, usize, fn(&Kept, &[String]) -> Said); 3] =
+        [("cases", 3, check), ("joint_cases", 7, joined), ("spell_cases", 3, spelled)];
     let (mut cases, mut differ) = (0, 0);
     for (name, words, said) in kinds.iter() {
         let kept = Kept::of(crates.join(name));

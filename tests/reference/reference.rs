@@ -1,8 +1,9 @@
-//! Document 01 ("What we will build and its rules") in ordinary Rust, written from its words
-//! alone, to be compared with other programs that follow the same document.
+//! Document 01 ("What we will build and its rules") and request 1 of document 02 ("Later requests
+//! from customers") in ordinary Rust, written from their words alone, to be compared with other
+//! programs that follow the same documents.
 //!
 //! Roles, users and rules are known by their place from 0 inside; answers count rules, goals,
-//! steps and lines from 1, as the document does.
+//! steps and lines from 1, as the documents do.
 
 use std::collections::{BTreeSet, HashMap, HashSet};
 
@@ -65,6 +66,12 @@ pub enum Merge {
     },
     Unproved { part: u64, number: u64, which: u64 },
     Refused { number: u64, line: u64, which: u64 },
+}
+
+#[derive(Clone, Debug, PartialEq, Eq)]
+pub enum Spelling {
+    Done { length: u64, text: Vec<u8> },
+    Refused { number: u64, line: u64 },
 }
 
 // ---------------------------------------------------------------------------------------------
@@ -876,16 +883,19 @@ fn set_text(role_names: &[Vec<u8>], set: &Roles) -> Vec<u8> {
     names.join(&b',')
 }
 
+fn level_text(level: Level) -> &'static [u8] {
+    match level {
+        Level::L => b"L",
+        Level::H => b"H",
+    }
+}
+
 fn typing_text(role_names: &[Vec<u8>], typing: &Typing) -> Vec<u8> {
     let mut text = b"typing\t1\n".to_vec();
     for (role, name) in role_names.iter().enumerate() {
-        let label = match typing.labels[role] {
-            Level::L => b"L",
-            Level::H => b"H",
-        };
         text.extend_from_slice(name);
         text.push(b'\t');
-        text.extend_from_slice(label);
+        text.extend_from_slice(level_text(typing.labels[role]));
         text.push(b'\t');
         text.extend_from_slice(&set_text(role_names, &typing.plus[role]));
         text.push(b'\t');
@@ -1005,4 +1015,60 @@ fn pass(failure: Option<(u64, u64)>, which: u64) -> Result<(), Merge> {
         Some((part, number)) => Err(Merge::Unproved { part: part, number: number, which: which }),
         None => Ok(()),
     }
+}
+
+// ---------------------------------------------------------------------------------------------
+// Spelling
+
+/// A policy written back: has lines in user order, then role order, all other lines in the order
+/// read, and sets in role order.
+fn policy_text(policy: &Policy) -> Vec<u8> {
+    let role = |place: usize| policy.role_names[place].as_slice();
+    let set = |set: &Roles| set_text(&policy.role_names, set);
+    let mut text = Vec::new();
+    add_line(&mut text, &[b"arbac", b"1"]);
+    for name in &policy.role_names {
+        add_line(&mut text, &[b"role", name]);
+    }
+    for (name, &clearance) in policy.user_names.iter().zip(&policy.clearances) {
+        add_line(&mut text, &[b"user", name, level_text(clearance)]);
+    }
+    for (name, holds) in policy.user_names.iter().zip(&policy.holdings) {
+        for &held in holds {
+            add_line(&mut text, &[b"has", name, role(held)]);
+        }
+    }
+    for rule in &policy.assigns {
+        let (positive, negative) = (set(&rule.positive), set(&rule.negative));
+        let fields = [b"assign", role(rule.admin), &positive, &negative, role(rule.target)];
+        add_line(&mut text, &fields);
+    }
+    for rule in &policy.revokes {
+        add_line(&mut text, &[b"revoke", role(rule.admin), role(rule.target)]);
+    }
+    for goal in &policy.goals {
+        add_line(&mut text, &[b"goal", &set(goal)]);
+    }
+    add_line(&mut text, &[b"end"]);
+    text
+}
+
+fn add_line(text: &mut Vec<u8>, fields: &[&[u8]]) {
+    text.extend_from_slice(&fields.join(&b'\t'));
+    text.push(b'\n');
+}
+
+/// `room` is the length of the lent buffer. `Done` carries the text that goes to its start.
+pub fn spell(policy: &[u8], room: usize) -> Spelling {
+    let policy = match read_policy(policy) {
+        Ok(policy) => policy,
+        Err(stop) => {
+            return Spelling::Refused { number: stop.number_for_policy(), line: stop.line };
+        }
+    };
+    let text = policy_text(&policy);
+    if text.len() > room {
+        return Spelling::Refused { number: 20, line: 0 };
+    }
+    Spelling::Done { length: text.len() as u64, text: text }
 }

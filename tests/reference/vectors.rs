@@ -1,6 +1,6 @@
-//! `vectors FOLDER`: every case below FOLDER/check, FOLDER/merge and FOLDER/sum against the
-//! reference. Prints each difference, then `N cases, M differ`. Status 0 when there are cases and
-//! none differs.
+//! `vectors FOLDER`: every case below FOLDER/check, FOLDER/merge, FOLDER/sum and FOLDER/write
+//! against the reference, as far as there are such folders. Prints each difference, how many cases
+//! each folder has, then `N cases, M differ`. Status 0 when there are cases and none differs.
 
 use std::collections::BTreeSet;
 use std::fs;
@@ -200,6 +200,35 @@ fn run_merge(folder: &Path, count: &mut Count) {
     }
 }
 
+/// A spelling is also its own spelling.
+fn run_write(folder: &Path, count: &mut Count) {
+    let expected = rows(&folder.join("expected"));
+    same_cases("write", folder, ".policy", &expected, count);
+    for (name, rest) in &expected {
+        let (room, wanted) = room_and_answer(rest);
+        let policy = text(folder, name, "policy");
+        let mut differences = Vec::new();
+        let got = match reference::spell(&policy, room) {
+            reference::Spelling::Done { length, text: got_text } => {
+                if wanted.starts_with(b"OK\t") {
+                    let written = text(folder, name, "written");
+                    differences.extend(compare("text", &written, &got_text));
+                    let again = reference::Spelling::Done { length: length, text: got_text };
+                    if reference::spell(&written, written.len()) != again {
+                        differences.push("spelt again it is another text".to_string());
+                    }
+                }
+                format!("OK\t{}", length)
+            }
+            reference::Spelling::Refused { number, line } => {
+                format!("REFUSED\t{}\t{}", number, line)
+            }
+        };
+        differences.extend(compare("answer", &wanted, got.as_bytes()));
+        count.case("write", name, &differences);
+    }
+}
+
 fn main() {
     let arguments: Vec<_> = std::env::args_os().skip(1).collect();
     if arguments.len() != 1 {
@@ -208,14 +237,14 @@ fn main() {
     }
     let folder = PathBuf::from(&arguments[0]);
     let mut count = Count { cases: 0, differ: 0 };
-    let kinds: [(&str, fn(&Path, &mut Count)); 3] =
-        [("check", run_check), ("merge", run_merge), ("sum", run_sum)];
+    let kinds: [(&str, fn(&Path, &mut Count)); 4] =
+        [("check", run_check), ("merge", run_merge), ("sum", run_sum), ("write", run_write)];
     for (kind, run) in kinds.iter() {
         let below = folder.join(kind);
         if below.is_dir() {
+            let before = count.cases;
             run(&below, &mut count);
-        } else {
-            println!("no folder {}", below.display());
+            println!("{}: {} cases", kind, count.cases - before);
         }
     }
     println!("{} cases, {} differ", count.cases, count.differ);

@@ -1,6 +1,6 @@
 //! Cases with so many lines of a kind as document 01 allows, or one more.
 
-use crate::cases::Case;
+use crate::cases::{reorderings, Case};
 use crate::chance::Chance;
 use crate::drafts::{Policy, Step};
 use crate::making::plain::{add_plain, plain_ground, plain_policy, plain_typing, Sizes};
@@ -40,6 +40,40 @@ const COUNTED: [Counted; 5] = [
         over: "257 revoke lines",
     },
     Counted { section: Section::Goals, limit: 32, at: "32 goals", over: "33 goals" },
+];
+
+/// The same of policies that are to be spelt.
+const SPELT: [Counted; 5] = [
+    Counted {
+        section: Section::Roles,
+        limit: 128,
+        at: "128 roles to be spelt",
+        over: "129 roles to be spelt",
+    },
+    Counted {
+        section: Section::Users,
+        limit: 64,
+        at: "64 users to be spelt",
+        over: "65 users to be spelt",
+    },
+    Counted {
+        section: Section::Assigns,
+        limit: 256,
+        at: "256 assign lines to be spelt",
+        over: "257 assign lines to be spelt",
+    },
+    Counted {
+        section: Section::Revokes,
+        limit: 256,
+        at: "256 revoke lines to be spelt",
+        over: "257 revoke lines to be spelt",
+    },
+    Counted {
+        section: Section::Goals,
+        limit: 32,
+        at: "32 goals to be spelt",
+        over: "33 goals to be spelt",
+    },
 ];
 
 /// The same of the joint rules and goals of a merge.
@@ -86,7 +120,23 @@ impl Sizes {
 
 /// A policy with so many lines of one kind and few of the others.
 pub fn count(chance: &mut Chance, turn: usize) -> Case {
-    let counted = &COUNTED[turn / 2 % COUNTED.len()];
+    let (made, policy, evidence) = counted(chance, &COUNTED, turn);
+    Case::at_limit(made, Texts::Check { policy: policy, evidence: evidence })
+}
+
+/// The same to be spelt.
+pub fn spelt_count(chance: &mut Chance, turn: usize) -> Case {
+    let (made, policy, evidence) = counted(chance, &SPELT, turn);
+    Case::at_limit(made, reorderings::texts(chance, policy, evidence))
+}
+
+/// What the case is called, its policy and its evidence.
+fn counted(
+    chance: &mut Chance,
+    kinds: &[Counted],
+    turn: usize,
+) -> (&'static str, Vec<u8>, Vec<u8>) {
+    let counted = &kinds[turn / 2 % kinds.len()];
     let (lines, made) = counted.lines(turn);
     let few = Sizes { roles: 5, users: 3, assigns: 2, revokes: 2, goals: 2 };
     let mut policy = plain_policy(chance, &few.with(counted.section, lines));
@@ -95,18 +145,30 @@ pub fn count(chance: &mut Chance, turn: usize) -> Case {
     if chance.one_in(2) {
         text = change_last(chance, &policy, counted.section, &text);
     }
-    Case::at_limit(made, Texts::Check { policy: text, evidence: evidence })
+    (made, text, evidence)
 }
 
 /// A policy with all five counts at their limits.
 pub fn all_counts(chance: &mut Chance, _turn: usize) -> Case {
+    let (policy, evidence) = all_counted(chance);
+    Case::at_limit(
+        "all counts at their limits",
+        Texts::Check { policy: policy, evidence: evidence },
+    )
+}
+
+/// The same to be spelt.
+pub fn all_counts_spelt(chance: &mut Chance, _turn: usize) -> Case {
+    let (policy, evidence) = all_counted(chance);
+    let texts = reorderings::texts(chance, policy, evidence);
+    Case::at_limit("all counts at their limits, to be spelt", texts)
+}
+
+fn all_counted(chance: &mut Chance) -> (Vec<u8>, Vec<u8>) {
     let sizes = Sizes { roles: 128, users: 64, assigns: 256, revokes: 256, goals: 32 };
     let mut policy = plain_policy(chance, &sizes);
     let evidence = evidence(chance, &mut policy);
-    Case::at_limit(
-        "all counts at their limits",
-        Texts::Check { policy: policy.text(), evidence: evidence },
-    )
+    (policy.text(), evidence)
 }
 
 /// A merge whose joint count of one kind is at its limit or one over it.

@@ -1,7 +1,7 @@
 //! Cases whose texts are damaged, or of another kind than the one that is wanted.
 
 use crate::cases::checks::policy_and_typing;
-use crate::cases::{checks, merges, sums};
+use crate::cases::{checks, merges, reorderings, sums};
 use crate::chance::Chance;
 use crate::making::damage::damage;
 use crate::making::traces::trace;
@@ -23,11 +23,23 @@ pub fn merge(chance: &mut Chance, width: Width) -> Texts {
     damaged(chance, texts)
 }
 
+/// A damaged policy and its reordering.
+pub fn spell(chance: &mut Chance, width: Width) -> Texts {
+    let (mut policy, evidence) = reorderings::policy_and_evidence(chance, width);
+    for _ in 0..chance.pick(&DAMAGES) {
+        damage(chance, &mut policy);
+    }
+    reorderings::texts(chance, policy, evidence)
+}
+
+/// How many damages.
+const DAMAGES: [usize; 5] = [1, 1, 1, 2, 3];
+
 /// One to three damages, most often all to the same text.
 fn damaged(chance: &mut Chance, mut texts: Texts) -> Texts {
     let mut all = texts.all();
     let mut place = chance.below(all.len());
-    for _ in 0..chance.pick(&[1, 1, 1, 2, 3]) {
+    for _ in 0..chance.pick(&DAMAGES) {
         damage(chance, all[place]);
         if chance.one_in(4) {
             place = chance.below(all.len());

@@ -1,6 +1,6 @@
 //! Cases with texts of 32,768 bytes, which is document 01's limit, or of one byte more.
 
-use crate::cases::Case;
+use crate::cases::{reorderings, Case};
 use crate::chance::Chance;
 use crate::drafts::{Assign, Policy, Revoke, RoleType, Step, User};
 use crate::making::grounds::bare_ground;
@@ -23,13 +23,29 @@ const LONG: [Long; 5] = [
     Long { at: "merged sum of 32,768 bytes", over: "merged sum of 32,769 bytes", make: merge },
 ];
 
-pub fn length(chance: &mut Chance, turn: usize) -> Case {
-    let long = &LONG[turn / 2 % LONG.len()];
-    if turn % 2 == 0 {
-        Case::at_limit(long.at, (long.make)(chance, TEXT_LIMIT))
-    } else {
-        Case::at_limit(long.over, (long.make)(chance, TEXT_LIMIT + 1))
+/// The same of a policy that is to be spelt.
+const SPELT: Long = Long {
+    at: "policy of 32,768 bytes to be spelt",
+    over: "policy of 32,769 bytes to be spelt",
+    make: spelt_policy,
+};
+
+impl Long {
+    fn case(&self, chance: &mut Chance, turn: usize) -> Case {
+        if turn % 2 == 0 {
+            Case::at_limit(self.at, (self.make)(chance, TEXT_LIMIT))
+        } else {
+            Case::at_limit(self.over, (self.make)(chance, TEXT_LIMIT + 1))
+        }
     }
+}
+
+pub fn length(chance: &mut Chance, turn: usize) -> Case {
+    LONG[turn / 2 % LONG.len()].case(chance, turn)
+}
+
+pub fn spelt_length(chance: &mut Chance, turn: usize) -> Case {
+    SPELT.case(chance, turn)
 }
 
 /// A ground of names that end in their number, of which the first two have one byte. So has the
@@ -56,6 +72,17 @@ fn lengthen(chance: &mut Chance, policy: &mut Policy, missing: usize) {
 }
 
 fn policy(chance: &mut Chance, bytes: usize) -> Texts {
+    let (policy, evidence) = long_policy(chance, bytes);
+    Texts::Check { policy: policy, evidence: evidence }
+}
+
+fn spelt_policy(chance: &mut Chance, bytes: usize) -> Texts {
+    let (policy, evidence) = long_policy(chance, bytes);
+    reorderings::texts(chance, policy, evidence)
+}
+
+/// A policy of so many bytes, and a typing.
+fn long_policy(chance: &mut Chance, bytes: usize) -> (Vec<u8>, Vec<u8>) {
     let mut policy = numbered(chance, 40, 32);
     policy.goals.push(vec![0]);
     let mut length = policy.text().len();
@@ -83,7 +110,7 @@ fn policy(chance: &mut Chance, bytes: usize) -> Texts {
     }
     lengthen(chance, &mut policy, bytes - length);
     let typing = plain_typing(policy.roles.len());
-    Texts::Check { policy: policy.text(), evidence: policy.typing_text(&typing) }
+    (policy.text(), policy.typing_text(&typing))
 }
 
 fn typing(chance: &mut Chance, bytes: usize) -> Texts {
