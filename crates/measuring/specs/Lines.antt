@@ -2,13 +2,13 @@
 use Prim.Native.Nat.{ℕ, suc, _+_, _≤_}
 use mathlib.Core.Bool.{Bool, true, false, not, cond, _&&_, _||_, and-eq-true-iff, false≢true}
 use mathlib.Core.List.{List, [], _∷_, _++_}
-use mathlib.Core.Path.{_≡_, refl, sym, ap, ap₂, _∙_}
+use mathlib.Core.Path.{_≡_, refl, ap, _∙_}
 use lib.Dec.{eqb}
 use lib.ListN.{length, length-append}
 use native.Mathlib.Omega.{arith}
 use Rattle.text.specs.Forms.{bytes, isName, isSet, isLabel}
-use Rattle.text.specs.Pieces.{split, sameBytes}
-use Rattle.text.specs.PieceLaws.{same-equal}
+use Rattle.text.specs.Pieces.{split, sameBytes, parted}
+use Rattle.text.specs.PieceLaws.{same-equal, split-parted}
 use Rattle.tables.specs.declared.Name.{Name}
 use Rattle.tables.specs.Names.{packed, nameAt}
 use Rattle.tables.specs.Named.{Named}
@@ -24,8 +24,6 @@ use Rattle.writing.specs.Written.{spelled}
 use Rattle.writing.specs.Spelling.{spelled-packed}
 use Rattle.showing.specs.Fields.{field}
 use Rattle.spelling.specs.TypingText.{setText, labelText}
-use Rattle.spelt.specs.Lines.{parted}
-use Rattle.spelt.specs.LinesExact.{fields-parted}
 use Rattle.inscribing.specs.LineText.{lineText}
 use Rattle.measuring.specs.Sets.{at-place, set-length}
 
@@ -187,7 +185,7 @@ module _ {roles users : List Name} (roles-named : Named roles) (users-named : Na
 pub line-length : (s : Said) (line : List ℕ) {e : Entry} → Sound s → GoodLine (countsOf s) (s .roles) (s .users) (lineOf (split 9 line)) e → length line ≡ length (lineText (s .roles) (s .users) e)
 line-length s line sound good =
     let fields = lineOf (split 9 line) in
-    ap length (fields-parted 9 line)
+    ap length (split-parted 9 line)
     ∙ fields-length (countsOf s) (s .roles) (s .users) (split 9 line) (good .formed)
     ∙ kind-length (sound .roles .named) (sound .users .named) (sound .roles .most) (countsOf s) fields (good .formed) (good .known)
     ∙ ap (λ (entry : Entry). length (lineText (s .roles) (s .users) entry)) (good .says)

@@ -1,5 +1,5 @@
 -- A set field is as long as the text of the set that it says.
-use Prim.Native.Nat.{ℕ, zero, suc, _+_, _≤_, _<_}
+use Prim.Native.Nat.{ℕ, suc, _+_, _≤_, _<_}
 use mathlib.Core.Bool.{Bool, true, false, not, cond, _&&_, _||_, and-eq-true-iff, false≢true}
 use mathlib.Core.List.{List, [], _∷_, _++_}
 use mathlib.Core.Path.{_≡_, refl, sym, ap, ap₂, _∙_}
@@ -13,17 +13,16 @@ use Rattle.roles.specs.Sets.{emptySet, hasRole, withOf}
 use Rattle.roles.specs.MemberLaws.{has-empty, has-with}
 use Rattle.text.specs.Forms.{bytes, every, isName, isSet, namesOf}
 use Rattle.text.specs.Pieces.{sameBytes, among, repeated}
-use Rattle.text.specs.PieceLaws.{equal-same}
+use Rattle.text.specs.PieceLaws.{equal-same, neither}
+use Rattle.spelling.specs.NamesJoined.{names-joined}
 use Rattle.tables.specs.declared.Name.{Name}
-use Rattle.tables.specs.Names.{packed, placeOf, nameAt}
+use Rattle.tables.specs.Names.{packed, nameAt}
 use Rattle.tables.specs.NameLaws.{place-one-to-one}
 use Rattle.tables.specs.Named.{Named}
 use Rattle.fields.specs.Fields.{placed, isDeclared, allDeclared, rolesFrom, rolesOf}
 use Rattle.writing.specs.Written.{spelled}
 use Rattle.writing.specs.Spelling.{spelled-packed}
 use Rattle.spelling.specs.TypingText.{namesFrom, joinedAfter, joined, setText}
-use Rattle.spelt.specs.NamesExact.{neither}
-use Rattle.spelt.specs.SetsExact.{names-joined}
 use Rattle.measuring.specs.Sums.{sumFrom, weight, weight-none, weight-with}
 
 -- ---- names joined

@@ -1,7 +1,7 @@
 -- A policy is spelt in order: its has lines by user, then by role, and the names of each set by role.
 use Prim.Native.Nat.{ℕ, zero, suc, _≤_, _<_}
 use mathlib.Core.Bool.{Bool, true, false, cond}
-use mathlib.Core.List.{List, [], _∷_, _++_, map, IsChain, IsChain·nil, IsChain·singleton, IsChain·cons-cons, List·Memᴰ as Listed, List·Memᴰ·head as here, List·Memᴰ·tail as later, List·Memᴰ·not-nil, List·Memᴰ·cases-cons, List·Memᴰ·append-cases, List·Memᴰ·eq-of-singleton}
+use mathlib.Core.List.{List, [], _∷_, _++_, IsChain, IsChain·nil, IsChain·singleton, IsChain·cons-cons, List·Memᴰ as Listed, List·Memᴰ·head as here, List·Memᴰ·tail as later, List·Memᴰ·not-nil, List·Memᴰ·cases-cons, List·Memᴰ·append-cases, List·Memᴰ·eq-of-singleton}
 use mathlib.Core.Path.{_≡_, refl, sym, ap, ap₂, subst, _∙_}
 use mathlib.Core.Logic.{⊎-elim}
 use lib.ListN.{length}

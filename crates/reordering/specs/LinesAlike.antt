@@ -6,8 +6,8 @@ use mathlib.Core.Path.{_≡_, refl, sym, ap, ap₂, subst, _∙_}
 use lib.Dec.{eqb}
 use lib.ListN.{length}
 use Rattle.text.specs.Forms.{bytes, isName, isSet, isLabel}
-use Rattle.text.specs.Pieces.{split, onto, sameBytes}
-use Rattle.text.specs.PieceLaws.{same-equal}
+use Rattle.text.specs.Pieces.{split, onto, sameBytes, parted}
+use Rattle.text.specs.PieceLaws.{same-equal, split-parted}
 use Rattle.tables.specs.declared.Name.{Name}
 use Rattle.tables.specs.Named.{Named}
 use Rattle.fields.specs.Fields.{isDeclared, allDeclared, rolesOf}
@@ -21,8 +21,6 @@ use Rattle.reading.specs.Sound.{Sound}
 use Rattle.writing.specs.Spelling.{spelled-packed}
 use Rattle.showing.specs.Fields.{field}
 use Rattle.spelling.specs.TypingText.{labelText}
-use Rattle.spelt.specs.Lines.{parted}
-use Rattle.spelt.specs.LinesExact.{fields-parted}
 use Rattle.rereading.specs.Cuts.{free, free-name}
 use Rattle.rereading.specs.Sets.{set-free}
 use Rattle.rereading.specs.Rows.{tab, label-name}
@@ -213,4 +211,4 @@ module _ (s : Said) (line : List ℕ) (sound : Sound s) where
       let written = lineText (s .roles) (s .users) (asked (countsOf s) (s .roles) (s .users) (kind.has holder held) .says) in
       let cut : split 9 line ≡ bytes "has" ∷ holder ∷ held ∷ [] = line-fields (countsOf s) (s .roles) (s .users) (split 9 line) (ap (λ (l : kind.Line). asked (countsOf s) (s .roles) (s .users) l .formed) is ∙ formed) ∙ ap fieldsOf is in
       let again = has-fields (sound .roles .named) (sound .users .named) (sound .roles .most) (countsOf s) holder held formed known in
-      (fields-parted 9 line ∙ ap (parted 9) (cut ∙ sym again) ∙ sym (fields-parted 9 written), record { rest = holder ∷ held ∷ []; first-field = cut })
+      (split-parted 9 line ∙ ap (parted 9) (cut ∙ sym again) ∙ sym (split-parted 9 written), record { rest = holder ∷ held ∷ []; first-field = cut })

@@ -12,7 +12,7 @@ use Rattle.roles.specs.Sets.{emptySet, hasRole, withOf}
 use Rattle.roles.specs.MemberLaws.{has-empty}
 use Rattle.text.specs.Forms.{bytes, every, isName, isSet, namesOf}
 use Rattle.text.specs.Pieces.{split, onto, sameBytes, among, repeated}
-use Rattle.text.specs.PieceLaws.{same-equal, split-piece}
+use Rattle.text.specs.PieceLaws.{same-equal, split-piece, neither}
 use Rattle.tables.specs.declared.Name.{Name}
 use Rattle.tables.specs.Names.{nameAt}
 use Rattle.tables.specs.Named.{Named}
@@ -20,7 +20,6 @@ use Rattle.fields.specs.Fields.{placed, isDeclared, allDeclared, rolesFrom, rol
 use Rattle.writing.specs.Written.{spelled}
 use Rattle.writing.specs.Spelling.{spelled-packed}
 use Rattle.spelling.specs.TypingText.{namesFrom, setText}
-use Rattle.spelt.specs.NamesExact.{neither}
 use Rattle.rereading.specs.Joined.{names-back}
 use Rattle.rereading.specs.Standing.{standing, spelled-form, each-written}
 use Rattle.measuring.specs.Sets.{at-place, isFresh, fresh-on}

@@ -3,3 +3,4 @@ pub mod TypingText
 pub mod Growth
 pub mod TypingSteps
 pub mod TypingLengths
+pub mod NamesJoined

@@ -1,40 +1,21 @@
 -- A text is read exactly when it is lines, each led on from those above.
 use Prim.Native.Nat.{ℕ, _≤_}
-use mathlib.Core.Bool.{Bool, true, false, cond, not, _&&_, and-eq-true-iff}
+use mathlib.Core.Bool.{Bool, true, not, _&&_, and-eq-true-iff}
 use mathlib.Core.List.{List, [], _∷_, _++_}
 use mathlib.Core.Logic.{_↔_}
-use mathlib.Core.Path.{_≡_, refl, sym, ap, ap₂, subst, _∙_}
-use borrow.Author.Tests.{eqb-true, eqb-false, ne-eqb, not-true}
+use mathlib.Core.Path.{_≡_, refl, ap, ap₂, subst, _∙_}
+use borrow.Author.Tests.{eqb-false, ne-eqb, not-true}
 use lib.Dec.{eqb}
 use lib.ListN.{length}
 use Rattle.text.specs.Forms.{every}
-use Rattle.text.specs.Pieces.{split, onto}
-use Rattle.text.specs.PieceLaws.{split-piece}
+use Rattle.text.specs.Pieces.{split, parted}
 use Rattle.walking.specs.Texts.{Judged, goes, ends, read, readText}
 use Rattle.walking.specs.Meaning.{Unbroken, Above, ReadAs}
 use Rattle.walking.specs.MeaningLaws.{read-exact}
 use Rattle.rereading.specs.Cuts.{free, cut-first, cut-last, free-join}
-use Rattle.spelt.specs.Lines.{ended, parted}
+use Rattle.spelt.specs.Lines.{ended}
 
 -- ---- fields
-
--- a byte in front of the first field
-parted-onto : (mark byte : ℕ) (pieces : List (List ℕ)) → parted mark (onto byte pieces) ≡ byte ∷ parted mark pieces
-unfolding parted onto
-parted-onto mark byte [] = refl
-parted-onto mark byte (piece ∷ []) = refl
-parted-onto mark byte (piece ∷ more ∷ pieces) = refl
-
--- Bytes are their fields, parted.
-pub fields-parted : (mark : ℕ) (s : List ℕ) → s ≡ parted mark (split mark s)
-unfolding split parted
-fields-parted mark [] = refl
-fields-parted mark (byte ∷ rest) = go (eqb byte mark) refl (split-piece mark rest) (fields-parted mark rest)
-  where
-    go : (b : Bool) → eqb byte mark ≡ b → (piece : List ℕ) × (more : List (List ℕ)) × (split mark rest ≡ piece ∷ more) → rest ≡ parted mark (split mark rest)
-        → byte ∷ rest ≡ parted mark (cond b ([] ∷ split mark rest) (onto byte (split mark rest)))
-    go true e (piece, more, pieces) below = ap₂ _∷_ (eqb-true byte mark e) (below ∙ ap (parted mark) pieces) ∙ ap (λ (l : List (List ℕ)). parted mark ([] ∷ l)) (sym pieces)
-    go false e some below = ap (λ (l : List ℕ). byte ∷ l) below ∙ sym (parted-onto mark byte (split mark rest))
 
 -- Fields that are parted are cut again, where the byte is in none of them.
 pub parted-fields : (mark : ℕ) (field : List ℕ) (fields : List (List ℕ)) → every (free mark) (field ∷ fields) ≡ true → split mark (parted mark (field ∷ fields)) ≡ field ∷ fields

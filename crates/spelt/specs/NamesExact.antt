@@ -16,7 +16,7 @@ use Rattle.tables.specs.Names.{packed, sameName, placeOf}
 use Rattle.tables.specs.NameLaws.{packed-one-to-one, place-one-to-one}
 use Rattle.text.specs.Forms.{every, isName, namesOf}
 use Rattle.text.specs.Pieces.{sameBytes, among, repeated}
-use Rattle.text.specs.PieceLaws.{same-equal, equal-same}
+use Rattle.text.specs.PieceLaws.{same-equal, equal-same, neither}
 use Rattle.fields.specs.Fields.{placed, isDeclared, allDeclared, rolesFrom, rolesOf}
 use Rattle.steps.specs.Places.{At, here, there}
 use Rattle.steps.specs.PlaceLaws.{at-inside, at-listed, listed-at}
@@ -42,11 +42,6 @@ same-packed s t form form′ = go (sameBytes s t) (sameName (packed s) (packed t
     go false false e f = refl
     go true false e f = sym f ∙ ap (λ (x : List ℕ). sameName (packed s) (packed x)) (sym (same-equal s t e)) ∙ same-self (packed s)
     go false true e f = sym (equal-same s) ∙ ap (sameBytes s) (packed-one-to-one s t form form′ (same-words (packed s) (packed t) f)) ∙ e
-
--- neither of two tests holds
-pub neither : (a b : Bool) → (a || b) ≡ false → (a ≡ false) × (b ≡ false)
-neither true b e = absurd (false≢true (sym e))
-neither false b e = (refl, e)
 
 -- ---- where a name stands
 

@@ -15,6 +15,7 @@ use Rattle.tables.specs.declared.Name.{Name}
 use Rattle.tables.specs.Names.{packed}
 use Rattle.text.specs.Forms.{bytes, every, isName, namesOf}
 use Rattle.text.specs.Pieces.{split, onto, among, repeated}
+use Rattle.text.specs.PieceLaws.{neither}
 use Rattle.walking.specs.Texts.{read}
 use Rattle.reading.specs.Policy.{Said, readPolicy}
 use Rattle.tables.specs.Padded.{padded}
@@ -27,7 +28,7 @@ use Rattle.judging.specs.Pinned.{membersOf, members-more, members-none, empty-m
 use Rattle.verdicts.specs.TypingLaid.{read-laid}
 use Rattle.rereading.specs.Cuts.{free, cut-first}
 use Rattle.spelt.specs.Names.{Names, RoleOf}
-use Rattle.spelt.specs.NamesExact.{neither, listed-among, listed-passes, placed-exact}
+use Rattle.spelt.specs.NamesExact.{listed-among, listed-passes, placed-exact}
 use Rattle.spelt.specs.Policies.{roles-packed}
 use Rattle.spelt.specs.Lines.{ended}
 use Rattle.spelt.specs.Sets.{SetSpelt}

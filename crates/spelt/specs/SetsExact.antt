@@ -1,40 +1,22 @@
 -- A set field is read exactly when it is spelt so.
 use Prim.Native.Nat.{ℕ, _≤_}
-use mathlib.Core.Bool.{Bool, true, false, not, cond, _&&_, and-eq-true-iff}
-use mathlib.Core.List.{List, [], _∷_, _++_, map, append-assoc, List·Memᴰ as Listed}
-use mathlib.Core.Path.{_≡_, refl, sym, ap, ap₂, subst, subst⁻¹, _∙_}
+use mathlib.Core.Bool.{Bool, true, not, _&&_, and-eq-true-iff}
+use mathlib.Core.List.{List, map, List·Memᴰ as Listed}
+use mathlib.Core.Path.{_≡_, ap, ap₂, subst, subst⁻¹, _∙_}
 use borrow.Author.Tests.{not-true}
 use lib.ListN.{length}
 use Rattle.roles.specs.declared.RoleSet.{RoleSet}
 use Rattle.roles.specs.MemberLaws.{same-members}
 use Rattle.tables.specs.Names.{packed}
-use Rattle.text.specs.Forms.{bytes, every, isName, isSet, namesOf}
-use Rattle.text.specs.Pieces.{split, sameBytes, repeated}
-use Rattle.text.specs.PieceLaws.{same-equal, split-piece}
+use Rattle.text.specs.Forms.{every, isName, isSet, namesOf}
+use Rattle.text.specs.Pieces.{repeated}
+use Rattle.spelling.specs.NamesJoined.{names-joined}
 use Rattle.fields.specs.Fields.{allDeclared, rolesOf}
-use Rattle.spelling.specs.TypingText.{joinedAfter, joined}
 use Rattle.fields.specs.Roles.{roles-sized}
 use Rattle.rereading.specs.Joined.{names-back}
 use Rattle.spelt.specs.Names.{Names, RoleOf}
 use Rattle.spelt.specs.NamesExact.{listed-passes, every-exact, all-declared-exact, roles-exact}
-use Rattle.spelt.specs.Lines.{parted}
-use Rattle.spelt.specs.LinesExact.{fields-parted}
 use Rattle.spelt.specs.Sets.{SetSpelt}
-
--- ---- a field is its names joined
-
-joined-parted : (name : List ℕ) (more : List (List ℕ)) → joinedAfter name more ≡ parted 44 (name ∷ more)
-unfolding joinedAfter parted
-joined-parted name [] = refl
-joined-parted name (next ∷ more) = append-assoc name (bytes ",") (joinedAfter next more) ∙ ap (λ (l : List ℕ). name ++ (44 ∷ l)) (joined-parted next more)
-
-pub names-joined : (field : List ℕ) → field ≡ joined (namesOf field)
-unfolding namesOf joined
-names-joined field = go (sameBytes field (bytes "-")) refl (split-piece 44 field)
-  where
-    go : (b : Bool) → sameBytes field (bytes "-") ≡ b → (name : List ℕ) × (more : List (List ℕ)) × (split 44 field ≡ name ∷ more) → field ≡ joined (cond b [] (split 44 field))
-    go true same some = same-equal field (bytes "-") same
-    go false same (name, more, pieces) = fields-parted 44 field ∙ ap (parted 44) pieces ∙ sym (joined-parted name more) ∙ ap joined (sym pieces)
 
 module _ {names : List (List ℕ)} (all : Names names) (few : length names ≤ 128) {field : List ℕ} where
   -- ---- what is read is spelt so

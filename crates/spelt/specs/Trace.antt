@@ -5,11 +5,12 @@ use mathlib.Core.List.{List, [], _∷_, _++_}
 use mathlib.Core.Path.{_≡_}
 use lib.ListN.{length}
 use Rattle.text.specs.Forms.{bytes}
+use Rattle.text.specs.Pieces.{parted}
 use Rattle.writing.specs.Written.{decimal}
 use Rattle.steps.specs.declared.Step.{Step}
 use Rattle.steps.specs.Places.{At}
 use Rattle.traces.specs.TraceText.{Traced}
-use Rattle.spelt.specs.Lines.{parted, ended}
+use Rattle.spelt.specs.Lines.{ended}
 
 -- A step's line: a word, the actor's name, the rule's number, the user's name, parted by tabs. The actor and the user are the places
 -- of their names among the users; the rule's number counts the rules of its kind from 1, in decimal with at most three digits.

@@ -9,8 +9,8 @@ use lib.Dec.{leb, eqb}
 use native.Mathlib.Omega.{arith}
 use Rattle.tables.specs.Names.{packed}
 use Rattle.text.specs.Forms.{bytes, every, isName, numberOf}
-use Rattle.text.specs.Pieces.{split, onto, sameBytes}
-use Rattle.text.specs.PieceLaws.{same-equal, equal-same}
+use Rattle.text.specs.Pieces.{split, onto, sameBytes, parted}
+use Rattle.text.specs.PieceLaws.{same-equal, equal-same, split-parted}
 use Rattle.fields.specs.Fields.{placed, isDeclared}
 use Rattle.walking.specs.Texts.{Judged, goes, ends, bad}
 use Rattle.walking.specs.Turns.{inTurn}
@@ -28,8 +28,7 @@ use Rattle.rereading.specs.Joined.{Apart}
 use Rattle.rereading.specs.Rows.{tab, newline}
 use Rattle.spelt.specs.Names.{Names}
 use Rattle.spelt.specs.NamesExact.{listed-passes, placed-exact, declared-at, declared-exact}
-use Rattle.spelt.specs.Lines.{parted}
-use Rattle.spelt.specs.LinesExact.{fields-parted, parted-fields, parted-free}
+use Rattle.spelt.specs.LinesExact.{parted-fields, parted-free}
 use Rattle.spelt.specs.Numbers.{Digits, number-digits, digits-number, digits-free}
 use Rattle.spelt.specs.Trace.{StepLine, StepSpelt, assign, revoke}
 
@@ -151,7 +150,7 @@ module _ (assigns revokes : ℕ) {users : List (List ℕ)} (all : Names users) w
   step-means : (s : Traced) (line : List ℕ) → s .started ≡ true → Means s line (answered s (traceLine assigns revokes (map packed users) line))
   unfolding Means answered traceLine judged stepFormed stepKnown stepSaid
   step-means s line started =
-      turn-cases (λ (a : TraceLine). Means s line (answered s a)) TraceLine.Bad _ _ (λ k f. tt) (λ passed. another started (go (kind (split 9 line)) (fields-parted 9 line) (passed .0) (passed .1 .0)))
+      turn-cases (λ (a : TraceLine). Means s line (answered s a)) TraceLine.Bad _ _ (λ k f. tt) (λ passed. another started (go (kind (split 9 line)) (split-parted 9 line) (passed .0) (passed .1 .0)))
     where
       go : {fields : List (List ℕ)} {f : Line} → Kind fields f → line ≡ parted 9 fields → stepFormed f ≡ true → stepKnown assigns revokes (map packed users) f ≡ true → StepSpelt assigns revokes users line (stepSaid (map packed users) f)
       go (is-assign {actor} {number} {user}) is formed known = assign (step-read all actor number user is formed known)

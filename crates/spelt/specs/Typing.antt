@@ -6,9 +6,10 @@ use mathlib.Core.Path.{_≡_}
 use lib.ListN.{length}
 use Rattle.roles.specs.declared.RoleSet.{RoleSet}
 use Rattle.text.specs.Forms.{bytes}
+use Rattle.text.specs.Pieces.{parted}
 use Rattle.spelling.specs.TypingText.{labelText}
 use Rattle.typings.specs.TypingText.{Typed}
-use Rattle.spelt.specs.Lines.{parted, ended}
+use Rattle.spelt.specs.Lines.{ended}
 use Rattle.spelt.specs.Sets.{SetSpelt}
 
 -- A role's line: its name, its label, its plus set and its minus set, parted by tabs.

@@ -13,8 +13,8 @@ use Rattle.roles.specs.declared.RoleSet.{RoleSet}
 use Rattle.tables.specs.declared.Name.{Name}
 use Rattle.tables.specs.Names.{packed}
 use Rattle.text.specs.Forms.{bytes, every, isName, isLabel, isSet}
-use Rattle.text.specs.Pieces.{split, onto, sameBytes}
-use Rattle.text.specs.PieceLaws.{same-equal}
+use Rattle.text.specs.Pieces.{split, onto, sameBytes, parted}
+use Rattle.text.specs.PieceLaws.{same-equal, split-parted}
 use Rattle.fields.specs.Fields.{placed, allDeclared, rolesOf}
 use Rattle.walking.specs.Texts.{Judged, goes, ends, bad}
 use Rattle.walking.specs.Turns.{inTurn}
@@ -30,8 +30,7 @@ use Rattle.rereading.specs.Joined.{Apart, free-joined}
 use Rattle.rereading.specs.Rows.{tab, newline, label-name, label-form, label-back, header-good, end-good}
 use Rattle.spelt.specs.Names.{Names}
 use Rattle.spelt.specs.NamesExact.{listed-passes, placed-exact}
-use Rattle.spelt.specs.Lines.{parted}
-use Rattle.spelt.specs.LinesExact.{fields-parted, parted-fields, parted-free}
+use Rattle.spelt.specs.LinesExact.{parted-fields, parted-free}
 use Rattle.spelt.specs.Sets.{SetSpelt}
 use Rattle.spelt.specs.SetsExact.{set-read, written-forms, set-form, set-declared, set-is}
 use Rattle.spelt.specs.Typing.{Row}
@@ -65,7 +64,7 @@ kind (w ∷ a ∷ b ∷ c ∷ d ∷ more) = is-other
 -- A line is `end` by its fields exactly when its bytes are.
 pub end-bytes : (line : List ℕ) → lineOf (split 9 line) ≡ end ↔ line ≡ bytes "end"
 unfolding lineOf oneField split onto sameBytes parted
-end-bytes line = (λ is. fields-parted 9 line ∙ only (kind (split 9 line)) is, λ is. ap (λ (l : List ℕ). lineOf (split 9 l)) is)
+end-bytes line = (λ is. split-parted 9 line ∙ only (kind (split 9 line)) is, λ is. ap (λ (l : List ℕ). lineOf (split 9 l)) is)
   where
     only : {fields : List (List ℕ)} {f : Line} → Kind fields f → f ≡ end → parted 9 fields ≡ bytes "end"
     only is-end e = refl
@@ -130,7 +129,7 @@ module _ {names : List (List ℕ)} (all : Names names) (few : length names ≤ 1
   line-means : (s : Typed) (line : List ℕ) → Means s line (judgeLine (map packed names) s line)
   unfolding Means judgeLine answered typingLine judged added entry wellFormed parted
   line-means s line =
-      turn-cases (λ (a : TypingLine). Means s line (answered s a)) TypingLine.Bad _ _ (λ k f. tt) (λ passed. go (kind (split 9 line)) (fields-parted 9 line) (passed .0) (passed .1 .0))
+      turn-cases (λ (a : TypingLine). Means s line (answered s a)) TypingLine.Bad _ _ (λ k f. tt) (λ passed. go (kind (split 9 line)) (split-parted 9 line) (passed .0) (passed .1 .0))
     where
       table : List Name
       table = map packed names

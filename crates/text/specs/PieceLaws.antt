@@ -1,6 +1,6 @@
 -- The pieces of bytes, from the places that a search finds.
 use Prim.Native.Nat.{ℕ, zero, suc, _+_, _-_, _<_, _≤_, zero-le}
-use mathlib.Core.Bool.{Bool, true, false, cond, _&&_, false≢true, and-eq-true-iff}
+use mathlib.Core.Bool.{Bool, true, false, cond, _&&_, _||_, false≢true, and-eq-true-iff}
 use mathlib.Core.List.{List, [], _∷_, _++_, append-assoc, append-nil}
 use mathlib.Core.Path.{_≡_, refl, sym, ap, ap₂, _∙_}
 use borrow.Author.Tests.{eqb-true, eq-eqb}
@@ -10,7 +10,7 @@ use lib.Seq.{take-all, drop-drop, getD-drop}
 use native.Mathlib.Decide.{decLt}
 use native.Mathlib.Omega.{arith}
 use Rattle.bytes.specs.Bytes.{indexOf, indexAfter}
-use Rattle.text.specs.Pieces.{Sought, onto, part, sameBytes, split}
+use Rattle.text.specs.Pieces.{Sought, onto, part, parted, sameBytes, split}
 
 -- ---- cutting at the first separator
 
@@ -171,3 +171,30 @@ sought-start s from mark place sought = go (decLt place (length s))
 -- a part is no longer than the whole
 pub part-short : (s : List ℕ) (from to : ℕ) {most : ℕ} → length s ≤ most → length (part s from to) ≤ most
 part-short s from to fits = omega (arith, length-take (to - from) (drop from s), length-drop from s)
+
+-- ---- pieces put together
+
+-- a byte in front of the first piece
+parted-onto : (mark byte : ℕ) (pieces : List (List ℕ)) → parted mark (onto byte pieces) ≡ byte ∷ parted mark pieces
+unfolding parted onto
+parted-onto mark byte [] = refl
+parted-onto mark byte (piece ∷ []) = refl
+parted-onto mark byte (piece ∷ more ∷ pieces) = refl
+
+-- Bytes are their pieces, parted.
+pub split-parted : (mark : ℕ) (s : List ℕ) → s ≡ parted mark (split mark s)
+unfolding split parted
+split-parted mark [] = refl
+split-parted mark (byte ∷ rest) = go (eqb byte mark) refl (split-piece mark rest) (split-parted mark rest)
+  where
+    go : (b : Bool) → eqb byte mark ≡ b → (piece : List ℕ) × (more : List (List ℕ)) × (split mark rest ≡ piece ∷ more) → rest ≡ parted mark (split mark rest)
+        → byte ∷ rest ≡ parted mark (cond b ([] ∷ split mark rest) (onto byte (split mark rest)))
+    go true e (piece, more, pieces) below = ap₂ _∷_ (eqb-true byte mark e) (below ∙ ap (parted mark) pieces) ∙ ap (λ (l : List (List ℕ)). parted mark ([] ∷ l)) (sym pieces)
+    go false e some below = ap (λ (l : List ℕ). byte ∷ l) below ∙ sym (parted-onto mark byte (split mark rest))
+
+-- ---- two tests
+
+-- neither holds
+pub neither : (a b : Bool) → (a || b) ≡ false → (a ≡ false) × (b ≡ false)
+neither true b e = absurd (false≢true (sym e))
+neither false b e = (refl, e)

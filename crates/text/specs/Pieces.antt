@@ -1,7 +1,7 @@
 -- The pieces between separators: lines between LFs, fields between tabs, names between commas.
 use Prim.Native.Nat.{ℕ, _+_, _-_, _≤_}
 use mathlib.Core.Bool.{Bool, true, false, cond, _&&_, _||_}
-use mathlib.Core.List.{List, [], _∷_}
+use mathlib.Core.List.{List, [], _∷_, _++_}
 use mathlib.Core.Path.{_≡_}
 use lib.Dec.{eqb}
 use lib.ListN.{length, take, drop}
@@ -16,6 +16,12 @@ onto byte (piece ∷ pieces) = (byte ∷ piece) ∷ pieces
 unfoldable pub split : ℕ → List ℕ → List (List ℕ)
 split mark [] = [] ∷ []
 split mark (byte ∷ rest) = cond (eqb byte mark) ([] ∷ split mark rest) (onto byte (split mark rest))
+
+-- pieces put together again, parted by the separator
+unfoldable pub parted : ℕ → List (List ℕ) → List ℕ
+parted mark [] = []
+parted mark (piece ∷ []) = piece
+parted mark (piece ∷ more ∷ pieces) = piece ++ (mark ∷ parted mark (more ∷ pieces))
 
 -- two byte strings are the same
 unfoldable pub sameBytes : List ℕ → List ℕ → Bool
