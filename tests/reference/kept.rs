@@ -1,7 +1,6 @@
-//! `kept CRATES`: the reference on the texts that are kept in CRATES/cases, CRATES/joint_cases and
-//! CRATES/spell_cases. The words of each crate's `args` say what is asked, and its file `stdout`
-//! what has to be answered. Prints each difference, then `N cases, M differ`. Status 0 when there
-//! are cases and none differs.
+//! `kept CRATES`: the reference on the texts that are kept in CRATES/cases and CRATES/lent_cases. The
+//! words of each crate's `args` say what is asked, and its file `stdout` what has to be answered.
+//! Prints each difference, then `N cases, M differ`. Status 0 when there are cases and none differs.
 
 use std::fs;
 use std::path::{Path, PathBuf};
@@ -106,33 +105,29 @@ fn place(bad: BadLine) -> String {
 }
 
 /// Its three words, the answer, how many bytes of the buffer are as they were, and the text.
-fn joined(kept: &Kept, words: &[String]) -> Said {
+fn lent(kept: &Kept, words: &[String]) -> Said {
     let room: usize = words[2].parse().expect("the size of a buffer");
     let texts: Vec<Vec<u8>> =
         words[3..].iter().filter(|name| *name != "-").map(|name| kept.text(name)).collect();
     let (answer, text) = match texts.as_slice() {
+        [policy] => spell(reference::spell(policy, room)),
         [policy, first, second] => sum(reference::sum(policy, first, second, room)),
         [policy_1, typing_1, policy_2, typing_2] => {
             merge(reference::merge(policy_1, typing_1, policy_2, typing_2, room))
         }
-        _ => panic!("three texts or four"),
+        _ => panic!("one text, three or four"),
     };
     let line = format!("{}\t{}\n", answer, room - text.len());
     Said::new(words[..3].join("\t"), &[line.as_bytes(), &text].concat())
 }
 
-/// Its name and the size of the buffer, the answer, how many bytes of the buffer are as they were,
-/// and the text.
-fn spelled(kept: &Kept, words: &[String]) -> Said {
-    let room: usize = words[1].parse().expect("the size of a buffer");
-    let (answer, text) = match reference::spell(&kept.text(&words[2]), room) {
+fn spell(answer: Spelling) -> (String, Vec<u8>) {
+    match answer {
         Spelling::Done { length, text } => (format!("OK\t{}", length), text),
         Spelling::Refused { number, line } => {
             (format!("REFUSED\t{}\t{}", number, line), Vec::new())
         }
-    };
-    let line = format!("{}\t{}\n", answer, room - text.len());
-    Said::new(words[..2].join("\t"), &[line.as_bytes(), &text].concat())
+    }
 }
 
 fn sum(answer: Sum) -> (String, Vec<u8>) {
@@ -167,8 +162,8 @@ fn main() {
         std::process::exit(2);
     }
     let crates = PathBuf::from(&arguments[0]);
-    let kinds: [(&str, usize, fn(&Kept, &[String]) -> Said); 3] =
-        [("cases", 3, check), ("joint_cases", 7, joined), ("spell_cases", 3, spelled)];
+    let kinds: [(&str, usize, fn(&Kept, &[String]) -> Said); 2] =
+        [("cases", 3, check), ("lent_cases", 7, lent)];
     let (mut cases, mut differ) = (0, 0);
     for (name, words, said) in kinds.iter() {
         let kept = Kept::of(crates.join(name));

@@ -2,8 +2,8 @@
 use borrow.Author.Needs.{needs}
 use mathlib.Core.Path.{sym}
 use lib.Seq.{length-take-le}
-use Rattle.lending.proofs.within.Statement.{statement}
-use Rattle.lending.proofs.within.Tie as tie
+use Rattle.lent_cases.proofs.within.Statement.{statement}
+use Rattle.lent_cases.proofs.within.Tie as tie
 
 returns : tie.Need-returns
 returns c = (search needs, sym (length-take-le _ _ (search needs)))

@@ -2,8 +2,8 @@
 use borrow.Author.Needs.{needs}
 use Prim.Native.Nat.{_-_, _≤_}
 use lib.ListN.{length}
-use Rattle.lending.proofs.kept.Statement.{statement}
-use Rattle.lending.proofs.kept.Tie as tie
+use Rattle.lent_cases.proofs.kept.Statement.{statement}
+use Rattle.lent_cases.proofs.kept.Tie as tie
 
 abbrev Inv-loop : tie.InvT-loop
 Inv-loop out from count₀ at₀ count at = count ≤ at

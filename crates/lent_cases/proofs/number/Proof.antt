@@ -2,8 +2,8 @@
 use borrow.Author.Needs.{needs}
 use Prim.Native.Nat.{_-_, _<_}
 use lib.ListN.{length}
-use Rattle.lending.proofs.number.Statement.{statement}
-use Rattle.lending.proofs.number.Tie as tie
+use Rattle.lent_cases.proofs.number.Statement.{statement}
+use Rattle.lent_cases.proofs.number.Tie as tie
 
 abbrev Inv-loop : tie.InvT-loop
 Inv-loop word value₀ at₀ value at = value < 400016

@@ -1,11 +1,11 @@
 -- `main` comes nearer to its last argument with each case.
 use borrow.Author.Needs.{needs}
 use Prim.Native.Nat.{_-_, _≤_}
-use Rattle.spell_cases.proofs.main.Statement.{statement}
-use Rattle.spell_cases.proofs.main.Tie as tie
+use Rattle.lent_cases.proofs.main.Statement.{statement}
+use Rattle.lent_cases.proofs.main.Tie as tie
 
 abbrev Inv-loop : tie.InvT-loop
-Inv-loop count argument₀ argument = 3 ≤ argument
+Inv-loop count argument₀ argument = 7 ≤ argument
 
 abbrev μ-loop : tie.MeasureT-loop
 μ-loop count argument₀ argument = count - argument
