@@ -2,5 +2,6 @@
 pub mod TypingText
 pub mod Growth
 pub mod TypingSteps
+pub mod Members
 pub mod TypingLengths
 pub mod NamesJoined

@@ -1,5 +1,5 @@
 -- How a typing's text grows as it is written: a set's text role by role, the whole text line by line.
-use Prim.Native.Nat.{ℕ, zero, suc, _+_, _*_, _≤_}
+use Prim.Native.Nat.{ℕ, zero, suc, _+_, _-_, _*_, _≤_, _<_}
 use mathlib.Core.Bool.{Bool, true, false, cond, _||_, false≢true}
 use mathlib.Core.List.{List, [], _∷_, _++_, append-assoc, append-nil}
 use mathlib.Core.Path.{_≡_, refl, sym, ap, _∙_}
@@ -35,11 +35,7 @@ rows-next (suc role) table =
 unfoldable pub memberText : (some member : Bool) → Name → List ℕ
 memberText some member name = cond member (cond some (bytes "," ++ spelled name) (spelled name)) []
 
--- no member, the first one, and a later one
-pub member-none : (some : Bool) {member : Bool} (name : Name) → member ≡ false → memberText some member name ≡ []
-unfolding memberText
-member-none some name out = rw out
-
+-- the first member, and a later one
 pub member-first : {some member : Bool} (name : Name) → member ≡ true → some ≡ false → memberText some member name ≡ spelled name
 unfolding memberText
 member-first name is first = rw (is, first)
@@ -144,6 +140,27 @@ unfolding setBelow memberAt someBelow
 set-grows table set = record {
   next = λ role. rw (names-next table set role) (listed-more (namesBelow table set role) (hasRole set role) (rowOf (drop (4 * role) table)));
 }
+
+-- past roles that are no members
+names-same : (table : List ℕ) (set : RoleSet) (role more : ℕ) → ((k : ℕ) → role ≤ k → k < role + more → hasRole set k ≡ false) → namesBelow table set role ≡ namesBelow table set (role + more)
+names-same table set role zero none = rw (add-zero role)
+names-same table set role (suc more) none =
+    let on : role + suc more ≡ role + more + 1 = omega arith in
+    names-same table set role more (λ k past below. none k past (omega (arith, below)))
+    ∙ sym (ap (namesBelow table set) on ∙ names-next table set (role + more) ∙ ap (λ (b : Bool). namesBelow table set (role + more) ++ cond b (spelled (rowOf (drop (4 * (role + more)) table)) ∷ []) []) (none (role + more) (omega arith) (omega arith)) ∙ append-nil (namesBelow table set (role + more)))
+
+up-to-same : (table : List ℕ) (set : RoleSet) (role to : ℕ) → role ≤ to → ((k : ℕ) → role ≤ k → k < to → hasRole set k ≡ false) → namesBelow table set role ≡ namesBelow table set to
+up-to-same table set role to up none =
+    let whole : role + (to - role) ≡ to = omega arith in
+    names-same table set role (to - role) (λ k past below. none k past (omega (arith, below, whole))) ∙ ap (namesBelow table set) whole
+
+pub set-same : (table : List ℕ) (set : RoleSet) (role to : ℕ) → role ≤ to → ((k : ℕ) → role ≤ k → k < to → hasRole set k ≡ false) → setBelow table set role ≡ setBelow table set to
+unfolding setBelow
+set-same table set role to up none = ap listed (up-to-same table set role to up none)
+
+pub some-same : (table : List ℕ) (set : RoleSet) (role to : ℕ) → role ≤ to → ((k : ℕ) → role ≤ k → k < to → hasRole set k ≡ false) → someBelow table set role ≡ someBelow table set to
+unfolding someBelow
+some-same table set role to up none = ap anyName (up-to-same table set role to up none)
 
 -- past the last role: the names joined, and `-` where there is none
 joined-some : (names : List (List ℕ)) → anyName names ≡ true → listed names ≡ joined names

@@ -1,5 +1,5 @@
 // The text of a typing over a policy's role names: how long it is, and putting it into a lent buffer, a line at a time.
-ghost use mathlib.Core.Bool.{Bool};
+ghost use mathlib.Core.Bool.{Bool, true};
 ghost use mathlib.Core.Path.{_≡_};
 ghost use Prim.Native.Nat.{_*_, _≤_, _<_};
 ghost use lib.ListN.{length, drop};
@@ -14,27 +14,21 @@ use writing::names::name_length;
 use writing::names::write_name;
 use writing::pieces::write_bytes;
 
-// How many bytes a role adds to a set's text: its name if it is a member, and a comma before it where some member stands before.
-fn member_length(name: Name, member: bool, some: bool) -> usize
-    ensures { λ r. ⌜ r ≡ length (memberText some member name) ⌝ }
+// How many bytes a member adds to a set's text: its name, and a comma before it where some member stands before.
+fn member_length(name: Name, some: bool) -> usize
+    ensures { λ r. ⌜ r ≡ length (memberText some true name) ⌝ }
 {
-    if !member {
-        return 0;
-    }
     if !some {
         return name_length(name);
     }
     1 + name_length(name)
 }
 
-// Puts what a role adds to a set's text at the start of a buffer, and answers how many bytes that is.
-fn write_member(out: &mut [u8], name: Name, member: bool, some: bool) -> usize
-    requires { ⌜ length (memberText some member name) ≤ length (now out) ⌝ }
-    ensures { λ r. ⌜ (r ≡ length (memberText some member name)) × (now (out .exit) ≡ put (memberText some member name) (now (out .entry))) ⌝ }
+// Puts what a member adds to a set's text at the start of a buffer, and answers how many bytes that is.
+fn write_member(out: &mut [u8], name: Name, some: bool) -> usize
+    requires { ⌜ length (memberText some true name) ≤ length (now out) ⌝ }
+    ensures { λ r. ⌜ (r ≡ length (memberText some true name)) × (now (out .exit) ≡ put (memberText some true name) (now (out .entry))) ⌝ }
 {
-    if !member {
-        return 0;
-    }
     if !some {
         return write_name(out, name);
     }
@@ -49,12 +43,13 @@ fn set_length(roles: &[u64], count: usize, set: RoleSet) -> usize
 {
     let mut some = false;
     let mut at: usize = 0;
-    let mut role = 0;
+    let mut left = set;
+    let mut role = set.lowest();
     while role < count {
-        let member = set.has(role);
-        at += member_length(tables::row(roles, role), member, some);
-        some = some | member;
-        role += 1;
+        at += member_length(tables::row(roles, role), some);
+        some = true;
+        left = left.without(role);
+        role = left.lowest();
     }
     if some {
         return at;
@@ -69,12 +64,13 @@ pub fn write_set(out: &mut [u8], roles: &[u64], count: usize, set: RoleSet) -> u
 {
     let mut some = false;
     let mut at: usize = 0;
-    let mut role = 0;
+    let mut left = set;
+    let mut role = set.lowest();
     while role < count {
-        let member = set.has(role);
-        at += write_member(&mut out[at..], tables::row(roles, role), member, some);
-        some = some | member;
-        role += 1;
+        at += write_member(&mut out[at..], tables::row(roles, role), some);
+        some = true;
+        left = left.without(role);
+        role = left.lowest();
     }
     if some {
         return at;

@@ -1,42 +1,40 @@
--- `write_member` goes by the three cases of a role's text; a later name is written past its comma.
+-- `write_member` goes by the two cases of a member's text; a later name is written past its comma.
 use Prim.Native.Nat.{_≤_}
 use borrow.Author.Needs.{needs}
 use borrow.Author.Tests.{not-true, not-false}
 use denote.Ref.{now}
 use lib.ListN.{length}
+use mathlib.Core.Bool.{true}
 use mathlib.Core.List.{_++_}
-use mathlib.Core.Path.{_≡_, sym}
+use mathlib.Core.Path.{_≡_, refl, sym}
 use native.Mathlib.Omega.{arith}
 use Rattle.text.specs.Forms.{bytes}
 use Rattle.writing.specs.Written.{spelled}
-use Rattle.writing.specs.Buffers.{Wrote, wrote, written, wrote-none, wrote-as, wrote-more, wrote-within, room}
+use Rattle.writing.specs.Buffers.{Wrote, wrote, written, wrote-as, wrote-more, wrote-within, room}
 use Rattle.writing.specs.Spelling.{spelled-length}
-use Rattle.spelling.specs.TypingSteps.{memberText, member-none, member-first, member-later}
+use Rattle.spelling.specs.TypingSteps.{memberText, member-first, member-later}
 use Rattle.spelling.proofs.write_member.Statement.{statement}
 use Rattle.spelling.proofs.write_member.Tie as tie
 
 -- a later name: a comma, then the name
-later : (c : tie.Else2) → memberText (c .before .before .before .args .some) (c .before .before .before .args .member) (c .before .before .before .args .name) ≡ bytes "," ++ spelled (c .before .before .before .args .name)
-later c = member-later _ (not-false _ (c .before .if1 .left)) (not-false _ (c .if2 .left))
+later : (c : tie.Else1) → memberText (c .before .before .args .some) true (c .before .before .args .name) ≡ bytes "," ++ spelled (c .before .before .args .name)
+later c = member-later _ refl (not-false _ (c .if1 .left))
 
 -- there is room for both, and the comma is written first
-fits : (c : tie.Else2) → length (bytes "," ++ spelled (c .before .before .before .args .name)) ≤ length (now (c .before .before .before .args .out))
-fits c = rw (later c) at (c .before .before .before .pre)
+fits : (c : tie.Else1) → length (bytes "," ++ spelled (c .before .before .args .name)) ≤ length (now (c .before .before .args .out))
+fits c = rw (later c) at (c .before .before .pre)
 
-comma : (c : tie.After-slice-known3) → Wrote (bytes ",") (now (c .before .before .before .before .before .before .before .before .args .out)) (c .before .before .write-bytes .result) (c .before .before .write-bytes .last .0)
+comma : (c : tie.After-slice-known3) → Wrote (bytes ",") (now (c .before .before .before .before .before .before .before .args .out)) (c .before .before .write-bytes .result) (c .before .before .write-bytes .last .0)
 comma c = wrote (c .before .before .write-bytes .ensures)
 
-returns : tie.Need-returns
-returns c = written (wrote-as (sym (member-none _ _ (not-true _ (c .if1 .taken)))) wrote-none)
-
 write-name-requires : tie.Need-write-name-requires
-write-name-requires c κs = rw (member-first _ (not-false _ (c .before .before .if1 .left)) (not-true _ (c .before .if2 .taken))) at (c .before .before .before .before .pre)
+write-name-requires c κs = rw (member-first _ refl (not-true _ (c .before .if1 .taken))) at (c .before .before .before .pre)
 
 same-length : tie.Need-same-length
 same-length c = search needs
 
-returns-2 : tie.Need-returns-2
-returns-2 c = written (wrote-as (sym (member-first _ (not-false _ (c .before .before .before .before .before .if1 .left)) (not-true _ (c .before .before .before .before .if2 .taken)))) (wrote (c .before .before .write-name .ensures)))
+returns : tie.Need-returns
+returns c = written (wrote-as (sym (member-first _ refl (not-true _ (c .before .before .before .before .if1 .taken)))) (wrote (c .before .before .write-name .ensures)))
 
 slice-aggregate-write-bytes : tie.Need-slice-aggregate-write-bytes
 slice-aggregate-write-bytes c = search needs
@@ -54,25 +52,24 @@ part-write-name-end : tie.Need-part-write-name-end
 part-write-name-end c = search needs
 
 write-name-requires-2 : tie.Need-write-name-requires-2
-write-name-requires-2 c κs = room (spelled (c .before .before .before .before .before .before .before .before .before .args .name)) (comma (c .before)) (omega (arith, comma (c .before) .place, fits (c .before .before .before .before .before .before)))
+write-name-requires-2 c κs = room (spelled (c .before .before .before .before .before .before .before .before .args .name)) (comma (c .before)) (omega (arith, comma (c .before) .place, fits (c .before .before .before .before .before .before)))
 
 add-result : tie.Need-add-result
-add-result c = omega (arith, c .before .before .write-name2 .ensures, c .before .before .before .before .before .before .write-bytes .ensures, spelled-length (c .before .before .before .before .before .before .before .before .before .before .before .before .args .name))
+add-result c = omega (arith, c .before .before .write-name2 .ensures, c .before .before .before .before .before .before .write-bytes .ensures, spelled-length (c .before .before .before .before .before .before .before .before .before .before .before .args .name))
 
 same-length-2 : tie.Need-same-length-2
 same-length-2 c = search needs
 
-returns-3 : tie.Need-returns-3
-returns-3 c = written (wrote-as (sym (later (c .before .before .before .before .before .before .before .before .before))) (wrote-more (comma (c .before .before .before .before)) (wrote (c .before .before .write-name2 .ensures))))
+returns-2 : tie.Need-returns-2
+returns-2 c = written (wrote-as (sym (later (c .before .before .before .before .before .before .before .before .before))) (wrote-more (comma (c .before .before .before .before)) (wrote (c .before .before .write-name2 .ensures))))
 
 pub write-member-spec : {M : Type 1} → statement M
 write-member-spec =
     tie.close
     (tie.spec
-    returns
     write-name-requires
     same-length
-    returns-2
+    returns
     slice-aggregate-write-bytes
     write-bytes-requires
     sub-write-name
@@ -81,4 +78,4 @@ write-member-spec =
     write-name-requires-2
     add-result
     same-length-2
-    returns-3)
+    returns-2)
