@@ -13,7 +13,7 @@ use Rattle.roles.specs.MemberLaws.{has-without, lowest-has, lowest-least}
 use Rattle.spelling.specs.TypingSteps.{someBelow, setBelow, some-start, some-next, some-same, set-same}
 
 -- The roles below a place are passed, and of the others all are left; the lowest of these is the next member.
-pub record Passed (table : List ℕ) (count : ℕ) (set : RoleSet) (from : ℕ) (left : RoleSet) (role : ℕ) (some : Bool) : Type 0 where
+pub record SetPassed (table : List ℕ) (count : ℕ) (set : RoleSet) (from : ℕ) (left : RoleSet) (role : ℕ) (some : Bool) : Type 0 where
   pub within : from ≤ count
   pub lowest : role ≡ lowestRole left
   pub gone : (k : ℕ) → k < from → hasRole left k ≡ false
@@ -21,10 +21,10 @@ pub record Passed (table : List ℕ) (count : ℕ) (set : RoleSet) (from : ℕ) 
   pub told : some ≡ someBelow table set from
 
 module _ (table : List ℕ) (count : ℕ) (set : RoleSet) where
-  pub passed-start : {role : ℕ} → role ≡ lowestRole set → Passed table count set 0 set role false
+  pub passed-start : {role : ℕ} → role ≡ lowestRole set → SetPassed table count set 0 set role false
   passed-start lowest = record { within = omega arith; lowest = lowest; gone = λ k below. absurd (omega arith); same = λ k past. refl; told = some-start table set }
 
-  module _ {from : ℕ} {left : RoleSet} {role : ℕ} {some : Bool} (p : Passed table count set from left role some) where
+  module _ {from : ℕ} {left : RoleSet} {role : ℕ} {some : Bool} (p : SetPassed table count set from left role some) where
     -- there is no member between what is passed and the next one
     clear : (k : ℕ) → from ≤ k → k < role → hasRole set k ≡ false
     clear k past below = sym (p .same k past) ∙ lowest-least left k (omega (arith, p .lowest, below))
@@ -76,7 +76,7 @@ module _ (table : List ℕ) (count : ℕ) (set : RoleSet) where
             kept false = refl
 
         -- The members left are those past it, and they are higher.
-        pub passed-next : Passed table count set (role + 1) rest next true
+        pub passed-next : SetPassed table count set (role + 1) rest next true
         passed-next = record { within = omega (arith, here); lowest = lowest; gone = rest-gone; same = rest-same; told = sym (or-true some) ∙ some-next table set role told-here (sym is-member) }
 
         pub higher : role < next

@@ -7,12 +7,12 @@ use native.Mathlib.Omega.{arith}
 use Rattle.spelling.specs.Growth.{counted}
 use Rattle.spelling.specs.TypingSteps.{setBelow, member-at, set-start, set-grows, set-some, set-none}
 use Rattle.spelling.specs.TypingLengths.{below-most}
-use Rattle.spelling.specs.Members.{Passed, passed-start, is-member, up-to, told-here, passed-next, higher, passed-end}
+use Rattle.spelling.specs.Members.{SetPassed, passed-start, is-member, up-to, told-here, passed-next, higher, passed-end}
 use Rattle.spelling.proofs.set_length.Statement.{statement}
 use Rattle.spelling.proofs.set_length.Tie as tie
 
 abbrev Inv-loop : tie.InvT-loop
-Inv-loop roles count some₀ at₀ left₀ role₀ some at left role = (from : ℕ) × Passed roles count left₀ from left role some × (at ≡ length (setBelow roles left₀ from))
+Inv-loop roles count some₀ at₀ left₀ role₀ some at left role = (from : ℕ) × SetPassed roles count left₀ from left role some × (at ≡ length (setBelow roles left₀ from))
 
 abbrev μ-loop : tie.MeasureT-loop
 μ-loop roles count some₀ at₀ left₀ role₀ some at left role = count - role

@@ -13,12 +13,12 @@ use Rattle.spelling.specs.TypingText.{setText}
 use Rattle.spelling.specs.Growth.{part-within, piece-room}
 use Rattle.spelling.specs.TypingSteps.{memberText, setBelow, memberAt, member-at, set-start, set-grows, set-some, set-none}
 use Rattle.spelling.specs.TypingLengths.{below-within}
-use Rattle.spelling.specs.Members.{Passed, passed-start, is-member, up-to, told-here, passed-next, higher, passed-end}
+use Rattle.spelling.specs.Members.{SetPassed, passed-start, is-member, up-to, told-here, passed-next, higher, passed-end}
 use Rattle.spelling.proofs.write_set.Statement.{statement}
 use Rattle.spelling.proofs.write_set.Tie as tie
 
 abbrev Inv-loop : tie.InvT-loop
-Inv-loop out₀ roles count some₀ at₀ left₀ role₀ t9 out some at left role = (from : ℕ) × Passed roles count left₀ from left role some × Wrote (setBelow roles left₀ from) out₀ at out
+Inv-loop out₀ roles count some₀ at₀ left₀ role₀ t9 out some at left role = (from : ℕ) × SetPassed roles count left₀ from left role some × Wrote (setBelow roles left₀ from) out₀ at out
 
 abbrev μ-loop : tie.MeasureT-loop
 μ-loop out₀ roles count some₀ at₀ left₀ role₀ t9 out some at left role = count - role
