@@ -33,7 +33,7 @@ use Rattle.arbac.specs.Face.{IsSafe, safe, IsSummed, summed, IsMerged, m
 
 -- ---- of any answer
 
--- An answer's number is one of document 01's, and 0 only where it is a success.
+-- An answer's number is one of the documents', and 0 only where it is a success.
 pub record Numbered {A : Type 0} (numberOf : A → ℕ) (Success : A → Type 0) (answer : A) : Type 0 where
   pub listed : numberOf answer ≤ 20
   pub zero-only : numberOf answer ≡ 0 → Success answer
@@ -63,7 +63,7 @@ check-numbered policy evidence = go (answerOf policy evidence) refl
     go (Answer.Short steps) is = other (lit≤ tt) (lit≤ tt)
     go (Answer.Refused number line) is = refusal numberOf (Answer.Refused number line) (text-number (refused-number policy evidence is))
 
--- ---- of sum and merge
+-- ---- of sum, spell and merge
 
 -- the number of a policy or a typing that is not read
 policy-refused : (text : List ℕ) {k n : ℕ} → readPolicy text ≡ refused k n → (10 ≤ k) × (k ≤ 20)

@@ -207,6 +207,7 @@ fn run(last: usize)
     io::write_all(STDOUT_FILENO, &kind[..kind_length]);
     io::write_all(STDOUT_FILENO, b"\t");
     show(&name[..name_length], &[room as u64]);
+    // the three words differ in their second letters
     match kind[1] {
         b'e' => run_merge(last, &mut buffer[..room]),
         b'u' => run_sum(last, &mut buffer[..room]),
