@@ -9,8 +9,10 @@ use Rattle.model.specs.Policy.{State, Run, Bad}
 use Rattle.model.specs.Typing.{Accepted}
 use Rattle.model.specs.Meaning.{meaning}
 use Rattle.model.specs.Safety.{accepted-safe}
+use Rattle.tables.specs.declared.Name.{Name}
 use Rattle.walking.specs.Texts.{read}
 use Rattle.reading.specs.Policy.{Said, policyOf, countsOf, readPolicy}
+use Rattle.reading.specs.Sound.{read-sound}
 use Rattle.typings.specs.TypingText.{Typed, readTyping, tableOf}
 use Rattle.traces.specs.TraceText.{Traced, readTrace}
 use Rattle.typings.specs.Kind.{isTyping}
@@ -37,7 +39,7 @@ use Rattle.answering.specs.Outcomes.{Outcome, no-policy, no-typing, type
 -- the verdict on a typing that an answer tells, and whether it tells one
 unfoldable tellsTyping : Answer → Bool
 tellsTyping (Answer.Safe roles assigns revokes goals pinned) = true
-tellsTyping (Answer.Attacked steps user goal) = false
+tellsTyping (Answer.Attacked steps user name goal) = false
 tellsTyping (Answer.Unproved part number) = true
 tellsTyping (Answer.Broken step) = false
 tellsTyping (Answer.Short steps) = false
@@ -45,7 +47,7 @@ tellsTyping (Answer.Refused number line) = false
 
 unfoldable typingTold : Answer → TypingVerdict
 typingTold (Answer.Safe roles assigns revokes goals pinned) = TypingVerdict.Accepted
-typingTold (Answer.Attacked steps user goal) = TypingVerdict.Accepted
+typingTold (Answer.Attacked steps user name goal) = TypingVerdict.Accepted
 typingTold (Answer.Unproved part number) = TypingVerdict.Fails part number
 typingTold (Answer.Broken step) = TypingVerdict.Accepted
 typingTold (Answer.Short steps) = TypingVerdict.Accepted
@@ -54,7 +56,7 @@ typingTold (Answer.Refused number line) = TypingVerdict.Accepted
 -- the verdict on a trace that an answer tells, and whether it tells one
 unfoldable tellsTrace : Answer → Bool
 tellsTrace (Answer.Safe roles assigns revokes goals pinned) = false
-tellsTrace (Answer.Attacked steps user goal) = true
+tellsTrace (Answer.Attacked steps user name goal) = true
 tellsTrace (Answer.Unproved part number) = false
 tellsTrace (Answer.Broken step) = true
 tellsTrace (Answer.Short steps) = true
@@ -62,7 +64,7 @@ tellsTrace (Answer.Refused number line) = false
 
 unfoldable traceTold : Answer → TraceVerdict
 traceTold (Answer.Safe roles assigns revokes goals pinned) = TraceVerdict.Short 0
-traceTold (Answer.Attacked steps user goal) = TraceVerdict.Attacked steps user goal
+traceTold (Answer.Attacked steps user name goal) = TraceVerdict.Attacked steps user name goal
 traceTold (Answer.Unproved part number) = TraceVerdict.Short 0
 traceTold (Answer.Broken step) = TraceVerdict.Broken step
 traceTold (Answer.Short steps) = TraceVerdict.Short steps
@@ -80,7 +82,7 @@ module _ (policy evidence : List ℕ) where
     where
       none : (v : TraceVerdict) → tellsTyping (traceAnswer v) ≡ false
       none (TraceVerdict.Refused number line) = refl
-      none (TraceVerdict.Attacked steps user goal) = refl
+      none (TraceVerdict.Attacked steps user name goal) = refl
       none (TraceVerdict.Broken step) = refl
       none (TraceVerdict.Short steps) = refl
   typing-told (typed {s = s} {t = t} reads over) tells = record { said = s; typing = t; reads = reads; over = over; holds = same (typingVerdict s (tableOf t)) }
@@ -103,7 +105,7 @@ module _ (policy evidence : List ℕ) where
     where
       same : (v : TraceVerdict) → v ≡ traceTold (traceAnswer v)
       same (TraceVerdict.Refused number line) = refl
-      same (TraceVerdict.Attacked steps user goal) = refl
+      same (TraceVerdict.Attacked steps user name goal) = refl
       same (TraceVerdict.Broken step) = refl
       same (TraceVerdict.Short steps) = refl
 
@@ -185,10 +187,12 @@ module _ (policy evidence : List ℕ) where
       back : TraceTexts policy Holds → answerOf policy evidence ≡ a
       back texts = kind-answer policy evidence (texts .reads) (kind (texts .said) (texts .holds)) ∙ ap traceAnswer (exact (texts .said) (texts .reads) .1 (texts .holds)) ∙ same
 
-  -- ATTACKED with its values exactly when the evidence is read as a trace whose steps are a run that ends bad: user and goal are the first.
-  pub attacked-exact : (n u g : ℕ) → answerOf policy evidence ≡ Answer.Attacked n u g ↔ TraceTexts policy (λ s. Attacked s evidence n u g)
+  -- ATTACKED with its values exactly when the evidence is read as a trace whose steps are a run that ends bad: user and goal are the first,
+  -- and the name is the user's.
+  pub attacked-exact : (n u : ℕ) (m : Name) (g : ℕ) → answerOf policy evidence ≡ Answer.Attacked n u m g ↔ TraceTexts policy (λ s. Attacked s evidence n u m g)
   unfolding tellsTrace traceTold traceAnswer
-  attacked-exact n u g = trace-exact refl refl (λ s a. read-kind s (a .reads .reads)) (λ s reads. running.attacked-exact s (read-sized policy reads) evidence n u g)
+  attacked-exact n u m g =
+      trace-exact refl refl (λ s a. read-kind s (a .reads .reads)) (λ s reads. running.attacked-exact s (read-sized policy reads) (read-sound policy reads .people) evidence n u m g)
 
   -- BROKEN with a number exactly when the evidence is read as a trace and the step with that number is the first that is none.
   pub broken-first : (n : ℕ) → answerOf policy evidence ≡ Answer.Broken n ↔ TraceTexts policy (λ s. Broken s evidence n)
@@ -201,8 +205,8 @@ module _ (policy evidence : List ℕ) where
   short-exact n = trace-exact refl refl (λ s b. read-kind s (b .reads .reads)) (λ s reads. running.short-exact s (read-sized policy reads) evidence n)
 
 -- No policy text has one evidence that earns SAFE and another that earns ATTACKED.
-pub never-both : (policy typing trace : List ℕ) {r a v g p n u h : ℕ} → answerOf policy typing ≡ Answer.Safe r a v g p → answerOf policy trace ≡ Answer.Attacked n u h → ⊥
-never-both policy typing trace {n = n} {u = u} {h = h} safe attacked =
-    let texts = attacked-exact policy trace n u h .0 attacked in
+pub never-both : (policy typing trace : List ℕ) {r a v g p n u : ℕ} {m : Name} {h : ℕ} → answerOf policy typing ≡ Answer.Safe r a v g p → answerOf policy trace ≡ Answer.Attacked n u m h → ⊥
+never-both policy typing trace {n = n} {u = u} {m = m} {h = h} safe attacked =
+    let texts = attacked-exact policy trace n u m h .0 attacked in
     let attack = attacked-attack (texts .holds) in
     safe-runs policy typing safe (texts .reads) (attack .run) (attack .bad)

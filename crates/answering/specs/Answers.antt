@@ -2,7 +2,6 @@
 use Prim.Native.Nat.{ℕ, suc}
 use mathlib.Core.Bool.{cond}
 use mathlib.Core.List.{List, [], _∷_}
-use Rattle.tables.specs.declared.Name.{Name}
 use Rattle.model.specs.declared.Typing.{Typing as Table}
 use Rattle.walking.specs.Texts.{Reading, read, refused}
 use Rattle.lines.specs.declared.Counts.{Counts}
@@ -28,7 +27,7 @@ typingAnswer c subject (refused number line) = Answer.Refused number line
 -- A trace text.
 unfoldable pub traceAnswer : TraceVerdict → Answer
 traceAnswer (TraceVerdict.Refused number line) = Answer.Refused number line
-traceAnswer (TraceVerdict.Attacked steps user goal) = Answer.Attacked steps user goal
+traceAnswer (TraceVerdict.Attacked steps user name goal) = Answer.Attacked steps user name goal
 traceAnswer (TraceVerdict.Broken step) = Answer.Broken step
 traceAnswer (TraceVerdict.Short steps) = Answer.Short steps
 
@@ -43,15 +42,10 @@ answerAfter (refused number line) evidence = Answer.Refused number line
 unfoldable pub answerOf : (policy evidence : List ℕ) → Answer
 answerOf policy evidence = answerAfter (readPolicy policy) evidence
 
--- the users of a policy text; none where it is refused
-unfoldable pub usersIn : Reading Said → List Name
-usersIn (read s) = s .users
-usersIn (refused number line) = []
-
 -- Document 01's number of an answer, and its values in the order of the table. A part is told by its number, a user by its number from 1.
 abbrev pub numberOf : Answer → ℕ
 numberOf (Answer.Safe roles assigns revokes goals pinned) = 0
-numberOf (Answer.Attacked steps user goal) = 1
+numberOf (Answer.Attacked steps user name goal) = 1
 numberOf (Answer.Unproved part number) = 2
 numberOf (Answer.Broken step) = 3
 numberOf (Answer.Short steps) = 4
@@ -59,7 +53,7 @@ numberOf (Answer.Refused number line) = number
 
 abbrev pub valuesOf : Answer → List ℕ
 valuesOf (Answer.Safe roles assigns revokes goals pinned) = roles ∷ assigns ∷ revokes ∷ goals ∷ pinned ∷ []
-valuesOf (Answer.Attacked steps user goal) = steps ∷ suc user ∷ goal ∷ []
+valuesOf (Answer.Attacked steps user name goal) = steps ∷ suc user ∷ goal ∷ []
 valuesOf (Answer.Unproved part number) = partNumber part ∷ number ∷ []
 valuesOf (Answer.Broken step) = step ∷ []
 valuesOf (Answer.Short steps) = steps ∷ []

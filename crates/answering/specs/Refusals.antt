@@ -67,7 +67,7 @@ module _ (policy evidence : List ℕ) where
     where
       go : (v : TraceVerdict) → traceAnswer v ≡ Answer.Refused k n → v ≡ TraceVerdict.Refused k n
       go (TraceVerdict.Refused number line) e = cc
-      go (TraceVerdict.Attacked steps user goal) e = absurd (true≢false (cc))
+      go (TraceVerdict.Attacked steps user name goal) e = absurd (true≢false (cc))
       go (TraceVerdict.Broken step) e = absurd (true≢false (cc))
       go (TraceVerdict.Short steps) e = absurd (true≢false (cc))
 

@@ -9,13 +9,11 @@ use lib.Dec.{leb, ltb, lit≤}
 use lib.ListN.{length, take, drop, replicate, length-append}
 use lib.Seq.{drop-append-seam}
 use native.Mathlib.Omega.{arith}
-use Rattle.tables.specs.declared.Name.{Name}
 use Rattle.tables.specs.Padded.{padded}
 use Rattle.ledgers.specs.Ledger.{ledgerWords}
 use Rattle.ledgers.specs.Memory.{noMemory, inMemory}
 use Rattle.places.specs.declared.BadPlace.{BadPlace}
 use Rattle.places.specs.Place.{bytesAt, badPlace, badLine, badTypingPlace, badTypingLine}
-use Rattle.judging.specs.declared.Part.{Part}
 use Rattle.writing.specs.Written.{put}
 use Rattle.writing.specs.Buffers.{put-before}
 use Rattle.writing.specs.Spelling.{decimal-length, spelled-length}
@@ -27,7 +25,6 @@ use Rattle.merging.specs.Merge as merge
 use Rattle.scribing.specs.declared.SpellAnswer.{SpellAnswer}
 use Rattle.scribing.specs.Spell as spell
 use Rattle.answering.specs.declared.Answer.{Answer}
-use Rattle.tables.specs.Names.{nameAt}
 use Rattle.answering.specs.Answers.{numberOf, answerOf}
 use Rattle.showing.specs.Fields.{field}
 use Rattle.printing.specs.Line.{lineOf, checkLine}
@@ -189,19 +186,19 @@ bad-typing-bytes policy typing = place-bytes policy typing (badTypingPlace polic
 -- ---- the line
 
 -- Every line of `check` fits into 128 bytes.
-line-length : (users : List Name) (answer : Answer) → length (lineOf users answer) ≤ 128
+line-length : (answer : Answer) → length (lineOf answer) ≤ 128
 unfolding lineOf field
-line-length users (Answer.Safe roles assigns revokes goals pinned) =
+line-length (Answer.Safe roles assigns revokes goals pinned) =
     simp length-append (omega (arith, decimal-length roles, decimal-length assigns, decimal-length revokes, decimal-length goals, decimal-length pinned))
-line-length users (Answer.Attacked steps user goal) = simp length-append (omega (arith, decimal-length steps, spelled-length (nameAt users user), decimal-length goal))
-line-length users (Answer.Unproved part number) = simp length-append (omega (arith, part-length part, decimal-length number))
-line-length users (Answer.Broken step) = simp length-append (omega (arith, decimal-length step))
-line-length users (Answer.Short steps) = simp length-append (omega (arith, decimal-length steps))
-line-length users (Answer.Refused number line) = simp length-append (omega (arith, decimal-length number, decimal-length line))
+line-length (Answer.Attacked steps user name goal) = simp length-append (omega (arith, decimal-length steps, spelled-length name, decimal-length goal))
+line-length (Answer.Unproved part number) = simp length-append (omega (arith, part-length part, decimal-length number))
+line-length (Answer.Broken step) = simp length-append (omega (arith, decimal-length step))
+line-length (Answer.Short steps) = simp length-append (omega (arith, decimal-length steps))
+line-length (Answer.Refused number line) = simp length-append (omega (arith, decimal-length number, decimal-length line))
 
 pub line-longest : (policy evidence : List ℕ) → length (checkLine policy evidence) ≤ 128
 unfolding checkLine
-line-longest policy evidence = line-length _ _
+line-longest policy evidence = line-length _
 
 -- The same of the line that the program prints, NOFILE among them.
 pub program-longest : (policyRead : Bool) (policy : List ℕ) (evidenceRead : Bool) (evidence : List ℕ) → length (programLine policyRead policy evidenceRead evidence) ≤ 128

@@ -7,11 +7,8 @@ use mathlib.Core.Path.{_≡_, refl, sym, ap, _∙_}
 use lib.Dec.{ltb}
 use lib.ListN.{length}
 use native.Mathlib.Omega.{arith}
-use Rattle.model.specs.Policy.{State, Run, Present}
-use Rattle.model.specs.Policy as model
-use Rattle.model.specs.States.{present-back}
+use Rattle.steps.specs.PlaceLaws.{at-inside}
 use Rattle.reading.specs.Sound.{read-sound}
-use Rattle.following.specs.FollowsExact.{follows-run}
 use Rattle.ledgers.specs.Memory.{noMemory, inMemory}
 use Rattle.ledgers.specs.MemoryLaws.{memory-short, memory-enough}
 use Rattle.writing.specs.Written.{put}
@@ -26,22 +23,12 @@ use Rattle.arbac.specs.Face.{noRoom, roomFor, toldNumber, toldIn, buffer
 
 -- ---- the user of ATTACKED
 
--- who is present after a run was so before it
-present-first : {P : model.Policy} {σ τ : State} {user : ℕ} → Run P σ τ → Present τ user → Present σ user
-unfolding model.granted model.revoked
-present-first model.stay here = here
-present-first (model.next run (model.assign listed can fresh)) here = present-first run (present-back _ _ _ here)
-present-first (model.next run (model.revoke listed can holds)) here = present-first run (present-back _ _ _ here)
-
 pub user-listed : (policy evidence : List ℕ) {answer : Answer} → answer ≡ answerOf policy evidence → UserListed answer
-user-listed policy evidence is = record { below = λ steps user goal attacked. go steps user goal (sym is ∙ attacked) }
-  where
-    go : (steps user goal : ℕ) → answerOf policy evidence ≡ Answer.Attacked steps user goal → user < 64
-    go steps user goal attacked =
-        let texts = attacked-exact policy evidence steps user goal .0 attacked in
-        let found = texts .holds .first in
-        let sound = read-sound policy (texts .reads) in
-        omega (arith, present-first (follows-run (texts .holds .follows)) (found .present) .listed, found .user-number, sound .users .most, sound .people)
+user-listed policy evidence is = record {
+  below = λ steps user name goal attacked.
+      let texts = attacked-exact policy evidence steps user name goal .0 (sym is ∙ attacked) in
+      omega (arith, at-inside (texts .holds .named), read-sound policy (texts .reads) .users .most);
+}
 
 -- ---- told in a lent array
 

@@ -57,7 +57,7 @@ check-numbered policy evidence = go (answerOf policy evidence) refl
   where
     go : (answer : Answer) → answerOf policy evidence ≡ answer → Numbered numberOf IsSafe answer
     go (Answer.Safe roles assigns revokes goals pinned) is = record { listed = lit≤ tt; zero-only = λ none. safe roles assigns revokes goals pinned }
-    go (Answer.Attacked steps user goal) is = other (lit≤ tt) (lit≤ tt)
+    go (Answer.Attacked steps user name goal) is = other (lit≤ tt) (lit≤ tt)
     go (Answer.Unproved part number) is = other (lit≤ tt) (lit≤ tt)
     go (Answer.Broken step) is = other (lit≤ tt) (lit≤ tt)
     go (Answer.Short steps) is = other (lit≤ tt) (lit≤ tt)

@@ -5,7 +5,7 @@ use Rattle.places.specs.declared.Refusal.{Refusal}
 -- The number and line of an answer that is a refusal; 0 and 0 of any other.
 unfoldable pub refusalIn : Answer → Refusal
 refusalIn (Answer.Safe roles assigns revokes goals pinned) = record { number = 0; line = 0 }
-refusalIn (Answer.Attacked steps user goal) = record { number = 0; line = 0 }
+refusalIn (Answer.Attacked steps user name goal) = record { number = 0; line = 0 }
 refusalIn (Answer.Unproved part number) = record { number = 0; line = 0 }
 refusalIn (Answer.Broken step) = record { number = 0; line = 0 }
 refusalIn (Answer.Short steps) = record { number = 0; line = 0 }

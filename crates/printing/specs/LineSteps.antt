@@ -1,18 +1,16 @@
 -- The line of an answer that is known.
 use Prim.Native.Nat.{ℕ, _≤_}
 use mathlib.Core.List.{List, _++_}
-use mathlib.Core.Path.{_≡_, sym, ap, subst, _∙_}
+use mathlib.Core.Path.{_≡_, sym, subst}
 use lib.Dec.{lit≤}
 use lib.ListN.{length}
 use native.Mathlib.Omega.{arith}
-use Rattle.tables.specs.declared.Name.{Name}
 use Rattle.text.specs.Forms.{bytes}
 use Rattle.judging.specs.declared.Part.{Part}
-use Rattle.writing.specs.Written.{spelled, decimal}
+use Rattle.writing.specs.Written.{decimal}
 use Rattle.showing.specs.Fields.{field}
 use Rattle.showing.specs.Steps.{Line}
 use Rattle.answering.specs.declared.Answer.{Answer}
-use Rattle.answering.specs.Named.{nameIn}
 use Rattle.printing.specs.Line.{partText, lineOf}
 
 -- the line of UNPROVED as it begins, where the part is known
@@ -21,17 +19,9 @@ pub unproved-part : (number : ℕ) {part known : Part} {most next : ℕ} {buffer
 unproved-part number {most = most} {next} {buffer} {out} same line = subst (λ (p : Part). Line (bytes "UNPROVED" ++ field (partText p) ++ field (decimal number)) most buffer next out) (sym same) line
 
 -- the line of an answer that is known, which is short enough
-pub known-line : (users : List Name) {answer known : Answer} {most next : ℕ} {buffer out : List ℕ} → answer ≡ known → most ≤ 128 → Line (lineOf users known) most buffer next out → Line (lineOf users answer) 128 buffer next out
-known-line users {next = next} {buffer} {out} same few line =
-    subst (λ (a : Answer). Line (lineOf users a) 128 buffer next out) (sym same) (record { wrote = line .wrote; few = omega (arith, line .few) })
-
--- the line of ATTACKED, with the name of the user of whom the answer speaks
-pub attacked-name : (users : List Name) {answer : Answer} {steps user goal : ℕ} {name : Name} {most next : ℕ} {buffer out : List ℕ} → answer ≡ Answer.Attacked steps user goal → name ≡ nameIn users answer
-    → Line (bytes "ATTACKED" ++ field (decimal steps) ++ field (spelled name) ++ field (decimal goal) ++ bytes "\n") most buffer next out
-    → Line (lineOf users (Answer.Attacked steps user goal)) most buffer next out
-unfolding lineOf nameIn
-attacked-name users {steps = steps} {goal = goal} {most = most} {next} {buffer} {out} is named line =
-    subst (λ (n : Name). Line (bytes "ATTACKED" ++ field (decimal steps) ++ field (spelled n) ++ field (decimal goal) ++ bytes "\n") most buffer next out) (named ∙ ap (nameIn users) is) line
+pub known-line : {answer known : Answer} {most next : ℕ} {buffer out : List ℕ} → answer ≡ known → most ≤ 128 → Line (lineOf known) most buffer next out → Line (lineOf answer) 128 buffer next out
+known-line {next = next} {buffer} {out} same few line =
+    subst (λ (a : Answer). Line (lineOf a) 128 buffer next out) (sym same) (record { wrote = line .wrote; few = omega (arith, line .few) })
 
 -- a part's word is short
 pub part-length : (part : Part) → length (partText part) ≤ 8

@@ -6,7 +6,6 @@ use mathlib.Core.Logic.{_↔_}
 use mathlib.Core.Path.{_≡_, refl, sym, ap}
 use lib.ListN.{getD}
 use native.Mathlib.Omega.{arith}
-use Rattle.tables.specs.declared.Name.{Name}
 use Rattle.text.specs.Forms.{bytes}
 use Rattle.answering.specs.declared.Answer.{Answer}
 use Rattle.showing.specs.Fields.{field}
@@ -14,18 +13,18 @@ use Rattle.printing.specs.Line.{lineOf, checkLine}
 use Rattle.printing.specs.Program.{noFile, programLine}
 
 -- no answer's line begins as NOFILE does
-answered : (users : List Name) (answer : Answer) → getD (lineOf users answer) 0 0 ≡ 78 → ⊥
+answered : (answer : Answer) → getD (lineOf answer) 0 0 ≡ 78 → ⊥
 unfolding lineOf
-answered users (Answer.Safe roles assigns revokes goals pinned) same = omega (arith, same)
-answered users (Answer.Attacked steps user goal) same = omega (arith, same)
-answered users (Answer.Unproved part number) same = omega (arith, same)
-answered users (Answer.Broken step) same = omega (arith, same)
-answered users (Answer.Short steps) same = omega (arith, same)
-answered users (Answer.Refused number line) same = omega (arith, same)
+answered (Answer.Safe roles assigns revokes goals pinned) same = omega (arith, same)
+answered (Answer.Attacked steps user name goal) same = omega (arith, same)
+answered (Answer.Unproved part number) same = omega (arith, same)
+answered (Answer.Broken step) same = omega (arith, same)
+answered (Answer.Short steps) same = omega (arith, same)
+answered (Answer.Refused number line) same = omega (arith, same)
 
 checked : (policy evidence name : List ℕ) → checkLine policy evidence ≡ noFile name → ⊥
 unfolding checkLine noFile
-checked policy evidence name same = answered _ _ (ap (λ (l : List ℕ). getD l 0 0) same)
+checked policy evidence name same = answered _ (ap (λ (l : List ℕ). getD l 0 0) same)
 
 -- the two lines of NOFILE differ
 told-apart : noFile (bytes "policy") ≡ noFile (bytes "evidence") → ⊥

@@ -1,9 +1,8 @@
 // The line that `check` prints, made in a lent buffer.
-ghost use mathlib.Core.List.{List, _++_};
+ghost use mathlib.Core.List.{_++_};
 ghost use mathlib.Core.Path.{_≡_};
 ghost use Prim.Native.Nat.{_≤_};
 ghost use lib.ListN.{length, take};
-ghost use Rattle.tables.specs.declared.Name.{Name};
 ghost use Rattle.text.specs.Forms.{bytes};
 ghost use Rattle.ledgers.specs.Ledger.{ledgerWords};
 ghost use Rattle.ledgers.specs.Memory.{inMemory, Spared};
@@ -12,13 +11,10 @@ ghost use Rattle.showing.specs.Fields.{field, shownLength, shown};
 ghost use Rattle.showing.specs.Showing.{Shows};
 ghost use Rattle.showing.specs.Steps.{Line};
 ghost use Rattle.printing.specs.Line.{partText, lineOf, checkLine};
-ghost use Rattle.printing.specs.LineTold.{NamedOver};
 ghost use Rattle.printing.specs.Program.{programLine};
-ghost use Rattle.answering.specs.declared.Answer.{Answer};
-ghost use Rattle.answering.specs.Named.{nameIn};
 use answering::Answer;
-use answering::named_answer;
-use answering::named_answer_in;
+use answering::check;
+use answering::check_in;
 use judging::Part;
 use ledgers::WORDS;
 use showing::begin_line;
@@ -62,10 +58,10 @@ fn unproved_line(out: &mut [u8], part: Part, number: usize) -> usize
     end_line(out, at)
 }
 
-// Writes the line of an answer with the name of the user of whom it speaks.
-fn write_line(out: &mut [u8], answer: Answer, name: Name) -> usize
+// Writes the line of an answer.
+fn write_line(out: &mut [u8], answer: Answer) -> usize
     requires { ⌜ 128 ≤ length (now out) ⌝ }
-    ensures { λ r. ⌜ ((users : List Name) → name ≡ nameIn users answer → Line (lineOf users answer) 128 (now (out .entry)) r (now (out .exit))) ⌝ }
+    ensures { λ r. ⌜ Line (lineOf answer) 128 (now (out .entry)) r (now (out .exit)) ⌝ }
 {
     match answer {
         Answer::Safe(roles, assigns, revokes, goals, pinned) => number_line(
@@ -79,7 +75,7 @@ fn write_line(out: &mut [u8], answer: Answer, name: Name) -> usize
                 pinned as u64,
             ],
         ),
-        Answer::Attacked(steps, _, goal) => attacked_line(out, steps, name, goal),
+        Answer::Attacked(steps, _, name, goal) => attacked_line(out, steps, name, goal),
         Answer::Unproved(part, number) => unproved_line(out, part, number),
         Answer::Broken(step) => number_line(out, b"BROKEN", &[step as u64]),
         Answer::Short(steps) => number_line(out, b"SHORT", &[steps as u64]),
@@ -87,14 +83,12 @@ fn write_line(out: &mut [u8], answer: Answer, name: Name) -> usize
     }
 }
 
-// Makes the line of an answer with the name of the user of whom it speaks, at the start of the buffer, and answers its length; 0
-// where the buffer is too short.
-fn show_answer(answer: Answer, name: Name, out: &mut [u8]) -> usize
-    requires { ⌜ NamedOver answer name ⌝ }
-    ensures { λ r. ⌜ ((users : List Name) → name ≡ nameIn users answer → Shows (lineOf users answer) (now (out .entry)) r (now (out .exit))) ⌝ }
+// Makes the line of an answer at the start of the buffer, and answers its length; 0 where the buffer is too short.
+fn show_answer(answer: Answer, out: &mut [u8]) -> usize
+    ensures { λ r. ⌜ Shows (lineOf answer) (now (out .entry)) r (now (out .exit)) ⌝ }
 {
     let mut line = [0u8; 128];
-    let length = write_line(&mut line, answer, name);
+    let length = write_line(&mut line, answer);
     show_line(&line[..length], out)
 }
 
@@ -104,10 +98,7 @@ pub fn check_line(policy: &[u8], evidence: &[u8], out: &mut [u8]) -> usize
     ensures { λ r. ⌜ now (out .exit) ≡ shown (checkLine (now (policy .entry)) (now (evidence .entry))) (now (out .entry)) ⌝ }
     ensures { λ r. ⌜ (r ≤ length (now (out .exit))) × (r ≡ length (take r (now (out .exit)))) ⌝ }
 {
-    let named = named_answer(policy, evidence);
-    let answer = named.answer;
-    let name = named.name;
-    show_answer(answer, name, out)
+    show_answer(check(policy, evidence), out)
 }
 
 // The same in lent memory, of which a ledger's words are needed: with fewer, no line is made.
@@ -119,10 +110,7 @@ pub fn check_line_in(policy: &[u8], evidence: &[u8], out: &mut [u8], memory: &mu
     if memory.len() < WORDS {
         return 0;
     }
-    let named = named_answer_in(policy, evidence, memory);
-    let answer = named.answer;
-    let name = named.name;
-    show_answer(answer, name, out)
+    show_answer(check_in(policy, evidence, memory), out)
 }
 
 // Makes the line that the program `check` prints for two files, each with whether it could be read and its bytes, at the start of

@@ -1,11 +1,10 @@
 -- What the answer of reading a policy tells: a refusal, or what the ledger says.
-use Prim.Native.Nat.{ℕ, _-_}
+use Prim.Native.Nat.{ℕ}
 use mathlib.Core.List.{List}
 use mathlib.Core.Path.{_≡_, refl, sym, ap, ap₂, _∙_}
-use lib.ListN.{length, take, drop}
 use native.Mathlib.Omega.{arith}
 use Rattle.tables.specs.Names.{rows}
-use Rattle.ledgers.specs.LedgerLaws.{roles-rows, users-lent}
+use Rattle.ledgers.specs.LedgerLaws.{roles-rows}
 use Rattle.lines.specs.declared.Counts.{Counts}
 use Rattle.walking.specs.Texts.{Reading, read, refused}
 use Rattle.reading.specs.declared.PolicyRead.{PolicyRead}
@@ -56,13 +55,7 @@ module _ {text : List ℕ} {answer : PolicyRead} {words : List ℕ} (into : Read
           record { said = s; is = is; says = ap (ledgerSays words) counted ∙ into .says s is; counts = counted; sound = read-sound text is; limited = counts-limited counted (read-sound text is) }
       go (refused k n) is given = absurd (refusal-number (policy-refusal-exact text k n .0 is) (sym (ap (λ (a : PolicyRead). a .refusal) given) ∙ none))
 
--- the tables of names give the names back
-module _ {text : List ℕ} {c : Counts} {words : List ℕ} (t : Told text c words) where
-  pub roles-told : rows (c .roles) words ≡ t .said .roles
-  unfolding ledgerSays
-  roles-told = roles-rows words (c .roles) ∙ ap (λ (s : Said). s .roles) (t .says)
-
-  -- also of a ledger that has changed and says the same users
-  pub users-told : (later : List ℕ) → ledgerSays later c .users ≡ ledgerSays words c .users → rows (c .users) (take (length later - 512) (drop 512 later)) ≡ t .said .users
-  unfolding ledgerSays
-  users-told later same = users-lent later (c .users) ∙ same ∙ ap (λ (s : Said). s .users) (t .says)
+-- the table of role names gives the names back
+pub roles-told : {text : List ℕ} {c : Counts} {words : List ℕ} (t : Told text c words) → rows (c .roles) words ≡ t .said .roles
+unfolding ledgerSays
+roles-told {c = c} {words = words} t = roles-rows words (c .roles) ∙ ap (λ (s : Said). s .roles) (t .says)

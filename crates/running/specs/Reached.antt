@@ -2,12 +2,13 @@
 use Prim.Native.Nat.{ℕ, zero, suc, _+_, _-_, _≤_, _<_, zero-le}
 use mathlib.Core.Bool.{Bool, true, false, cond}
 use mathlib.Core.List.{List, [], _∷_, _++_}
-use mathlib.Core.Path.{_≡_, refl, sym, ap, subst, _∙_}
+use mathlib.Core.Path.{_≡_, refl, sym, ap, ap₂, subst, _∙_}
 use lib.ListN.{length, length-append}
 use native.Mathlib.Numerals.{add-one}
 use native.Mathlib.Omega.{arith}
 use Rattle.roles.specs.declared.RoleSet.{RoleSet}
 use Rattle.model.specs.Policy.{State}
+use Rattle.tables.specs.declared.Name.{Name}
 use Rattle.tables.specs.Names.{rows}
 use Rattle.tables.specs.NameLaws as names
 use Rattle.ledgers.specs.Parts.{rowsIn}
@@ -56,19 +57,24 @@ reached-start words c text short is =
     record { said = []; counted = refl; few = zero-le; state = s .holdings; run = refl; says = refl; after = after-header (length (s .assigns)) (length (s .revokes)) (s .users) text short is }
 
 -- a program's end of a run is the verdict
-end-is : (steps stopped : ℕ) (goals : List RoleSet) (σ : State) → endVerdict stopped steps (firstBad σ goals) ≡ ranVerdict steps goals (soFar stopped σ)
+end-is : (steps stopped : ℕ) (names : List Name) (goals : List RoleSet) (σ : State) → endVerdict stopped steps names (firstBad σ goals) ≡ ranVerdict steps names goals (soFar stopped σ)
 unfolding endVerdict ranVerdict soFar
-end-is steps zero goals σ = refl
-end-is steps (suc number) goals σ = refl
+end-is steps zero names goals σ = refl
+end-is steps (suc number) names goals σ = refl
+
+-- the names that the ledger lends are those of the policy's users
+users-said : {s : Said} {c : Counts} {text : List ℕ} {at number steps stopped : ℕ} {words : List ℕ} → Reached s c text at number steps stopped words → rows (c .users) (part words 512 (length words)) ≡ s .users
+unfolding ledgerSays
+users-said {c = c} {words = words} r = users-lent words (c .users) ∙ ap (λ (t : Said). t .users) (r .says)
 
 module _ {s : Said} {c : Counts} {text : List ℕ} {at number steps stopped : ℕ} {words : List ℕ} (r : Reached s c text at number steps stopped words) {stop : ℕ} (sought : Sought text at 10 stop) (here : stop < length text) where
   -- the last line
   pub reached-last : {found : Found} {verdict : TraceVerdict} → sameBytes (part text at stop) (bytes "end") ≡ true → length text ≤ stop + 1
-      → found ≡ firstBad (rowsIn people words (c .users)) (rowsIn goalSets words (c .goals)) → verdict ≡ endVerdict stopped steps found → verdict ≡ traceVerdict s text
+      → found ≡ firstBad (rowsIn people words (c .users)) (rowsIn goalSets words (c .goals)) → verdict ≡ endVerdict stopped steps (rows (c .users) (part words 512 (length words))) found → verdict ≡ traceVerdict s text
   unfolding ledgerSays
   reached-last last all finds is =
-      is ∙ ap (endVerdict stopped steps) (finds ∙ (λ i. firstBad (r .says i .holdings) (r .says i .goals))) ∙ end-is steps stopped (s .goals) (r .state)
-      ∙ ap (λ (n : ℕ). ranVerdict n (s .goals) (soFar stopped (r .state))) (r .counted)
+      is ∙ ap₂ (endVerdict stopped steps) (users-said r) (finds ∙ (λ i. firstBad (r .says i .holdings) (r .says i .goals))) ∙ end-is steps stopped (s .users) (s .goals) (r .state)
+      ∙ ap (λ (n : ℕ). ranVerdict n (s .users) (s .goals) (soFar stopped (r .state))) (r .counted)
       ∙ sym (verdict-run s text (record { trace = _; reads = line-last (r .after) sought here last all; are = refl }) (r .run))
 
 -- a line that is not `end`, read over the user names and the counts of the ledger, which are within the limits
@@ -90,8 +96,7 @@ module _ {s : Said} {c : Counts} {text : List ℕ} {at number steps stopped : �
   given-said =
       let assigns : c .assigns ≡ length (s .assigns) = sym (rows-length assignRules words (c .assigns)) ∙ ap (λ (t : Said). length (t .assigns)) (r .says) in
       let revokes : c .revokes ≡ length (s .revokes) = sym (rows-length revokeRules words (c .revokes)) ∙ ap (λ (t : Said). length (t .revokes)) (r .says) in
-      let users : rows (c .users) (part words 512 (length words)) ≡ s .users = users-lent words (c .users) ∙ ap (λ (t : Said). t .users) (r .says) in
-      l .given ∙ (λ i. traceLine (assigns i) (revokes i) (users i) (part text at stop))
+      l .given ∙ (λ i. traceLine (assigns i) (revokes i) (users-said r i) (part text at stop))
 
   -- a bad line
   pub reached-bad : {k : ℕ} → answer ≡ TraceLine.Bad k → TraceVerdict.Refused k number ≡ traceVerdict s text

@@ -4,9 +4,11 @@ use mathlib.Core.List.{List}
 use mathlib.Core.Path.{_≡_}
 use lib.ListN.{length}
 use Rattle.model.specs.Policy.{State, Bad}
+use Rattle.tables.specs.declared.Name.{Name}
 use Rattle.walking.specs.Texts.{read}
 use Rattle.reading.specs.Policy.{Said, policyOf}
 use Rattle.steps.specs.declared.Step.{Step}
+use Rattle.steps.specs.Places.{At}
 use Rattle.steps.specs.Bad.{FirstBad}
 use Rattle.following.specs.Follows.{Follows, Breaks}
 use Rattle.traces.specs.TraceText.{Traced, readTrace}
@@ -20,14 +22,16 @@ pub record ReadsAs (s : Said) (text : List ℕ) (steps : List Step) : Type 0 whe
   pub are : trace .steps ≡ steps
 
 -- ATTACKED: the text is read as so many steps, they are a run of the policy from the holdings, and in its last state this user, at a place
--- from 0, is the first L user who holds all roles of a goal, and this goal, by its number from 1, that user's lowest.
-pub record Attacked (s : Said) (text : List ℕ) (count user goal : ℕ) : Type 0 where
+-- from 0 and with the name that stands there, is the first L user who holds all roles of a goal, and this goal, by its number from 1, that
+-- user's lowest.
+pub record Attacked (s : Said) (text : List ℕ) (count user : ℕ) (name : Name) (goal : ℕ) : Type 0 where
   pub steps : List Step
   pub reads : ReadsAs s text steps
   pub counted : count ≡ length steps
   pub last : State
   pub follows : Follows (policyOf s) (s .holdings) steps last
   pub first : FirstBad (s .goals) last (record { user = suc user; goal = goal })
+  pub named : At name (s .users) user
 
 -- BROKEN: the text is read, and the step with this number is the first that is no step of the policy's run from the holdings.
 pub record Broken (s : Said) (text : List ℕ) (number : ℕ) : Type 0 where

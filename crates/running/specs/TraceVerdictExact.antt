@@ -1,22 +1,28 @@
 -- The verdict on a trace is exact: each answer exactly when its rule says so.
 use mathlib.Core.Bool.{true≢false}
-use Prim.Native.Nat.{ℕ, zero, suc, _-_}
-use mathlib.Core.List.{List, List·Memᴰ as Listed}
+use Prim.Native.Nat.{ℕ, zero, suc, _-_, _<_}
+use mathlib.Core.List.{List, [], List·Memᴰ as Listed}
 use mathlib.Core.Logic.{_↔_}
 use mathlib.Core.Path.{_≡_, refl, sym, ap, ap₂, subst, _∙_}
 use lib.ListN.{length}
 use native.Mathlib.Omega.{arith}
 use Rattle.roles.specs.declared.RoleSet.{RoleSet}
 use Rattle.roles.specs.Members.{Sized}
-use Rattle.model.specs.Policy.{State}
+use Rattle.model.specs.Policy.{State, Run, Present}
+use Rattle.model.specs.Policy as model
 use Rattle.model.specs.Sized.{SizedPolicy}
+use Rattle.model.specs.States.{present-back}
 use Rattle.model.specs.Safety.{Attack}
+use Rattle.tables.specs.declared.Name.{Name}
+use Rattle.tables.specs.Names.{packed, nameAt}
 use Rattle.walking.specs.Texts.{Reading, read, refused}
 use Rattle.reading.specs.Policy.{Said, policyOf}
 use Rattle.steps.specs.declared.Found.{Found}
 use Rattle.steps.specs.declared.Step.{Step}
 use Rattle.steps.specs.Tests.{firstBad}
 use Rattle.steps.specs.Traces.{Ran, broken, ran, runOf}
+use Rattle.steps.specs.Places.{At}
+use Rattle.steps.specs.PlaceLaws.{at-stands, stands-at}
 use Rattle.steps.specs.Bad.{FirstBad}
 use Rattle.steps.specs.BadLaws.{bad-exact, bad-first, first-only, first-is-bad}
 use Rattle.following.specs.FollowsExact.{follows-exact, breaks-exact, follows-run}
@@ -35,31 +41,31 @@ module _ (s : Said) (text : List ℕ) where
     no-one : {steps : List Step} {last : State} → ReadsAs s text steps → runOf (policyOf s) (s .holdings) steps ≡ ran last → firstBad last (s .goals) .user ≡ 0
         → Outcome (TraceVerdict.Short (length steps))
     someone : {steps : List Step} {last : State} {user : ℕ} → ReadsAs s text steps → runOf (policyOf s) (s .holdings) steps ≡ ran last → firstBad last (s .goals) .user ≡ suc user
-        → Outcome (TraceVerdict.Attacked (length steps) user (firstBad last (s .goals) .goal))
+        → Outcome (TraceVerdict.Attacked (length steps) user (nameAt (s .users) user) (firstBad last (s .goals) .goal))
 
   verdict-read : {r : Reading Traced} → readTrace (length (s .assigns)) (length (s .revokes)) (s .users) text ≡ r → traceVerdict s text ≡ readVerdict s r
   unfolding traceVerdict
   verdict-read reads = ap (readVerdict s) reads
 
   -- of a text that is read, what its steps run to
-  pub verdict-run : {steps : List Step} {x : Ran} → ReadsAs s text steps → runOf (policyOf s) (s .holdings) steps ≡ x → traceVerdict s text ≡ ranVerdict (length steps) (s .goals) x
+  pub verdict-run : {steps : List Step} {x : Ran} → ReadsAs s text steps → runOf (policyOf s) (s .holdings) steps ≡ x → traceVerdict s text ≡ ranVerdict (length steps) (s .users) (s .goals) x
   unfolding readVerdict
   verdict-run {steps} told runs =
-      verdict-read (told .reads) ∙ ap (λ (l : List Step). ranVerdict (length l) (s .goals) (runOf (policyOf s) (s .holdings) l)) (told .are)
-      ∙ ap (ranVerdict (length steps) (s .goals)) runs
+      verdict-read (told .reads) ∙ ap (λ (l : List Step). ranVerdict (length l) (s .users) (s .goals) (runOf (policyOf s) (s .holdings) l)) (told .are)
+      ∙ ap (ranVerdict (length steps) (s .users) (s .goals)) runs
 
   verdict-short : {steps : List Step} {last : State} → ReadsAs s text steps → runOf (policyOf s) (s .holdings) steps ≡ ran last → firstBad last (s .goals) .user ≡ 0
       → traceVerdict s text ≡ TraceVerdict.Short (length steps)
   unfolding ranVerdict
-  verdict-short {steps} {last} told runs none = verdict-run told runs ∙ sym (last-short (length steps) (firstBad last (s .goals)) none)
+  verdict-short {steps} {last} told runs none = verdict-run told runs ∙ sym (last-short (length steps) (s .users) (firstBad last (s .goals)) none)
 
   verdict-attacked : {steps : List Step} {last : State} {user : ℕ} → ReadsAs s text steps → runOf (policyOf s) (s .holdings) steps ≡ ran last → firstBad last (s .goals) .user ≡ suc user
-      → traceVerdict s text ≡ TraceVerdict.Attacked (length steps) user (firstBad last (s .goals) .goal)
+      → traceVerdict s text ≡ TraceVerdict.Attacked (length steps) user (nameAt (s .users) user) (firstBad last (s .goals) .goal)
   unfolding ranVerdict
   verdict-attacked {steps} {last} {user} told runs one =
       let place : firstBad last (s .goals) .user - 1 ≡ user = omega (arith, one) in
-      verdict-run told runs ∙ sym (last-attacked (length steps) (firstBad last (s .goals)) (λ none. omega (arith, one, none)))
-      ∙ ap (λ (u : ℕ). TraceVerdict.Attacked (length steps) u (firstBad last (s .goals) .goal)) place
+      verdict-run told runs ∙ sym (last-attacked (length steps) (s .users) (firstBad last (s .goals)) (λ none. omega (arith, one, none)))
+      ∙ ap (λ (u : ℕ). TraceVerdict.Attacked (length steps) u (nameAt (s .users) u) (firstBad last (s .goals) .goal)) place
 
   outcome : Outcome (traceVerdict s text)
   unfolding readVerdict ranVerdict
@@ -93,6 +99,15 @@ pub run-refused : (s : Said) (text : List ℕ) (k n : ℕ) → traceVerdict s te
 unfolding readVerdict
 run-refused s text k n = (refused-told (outcome s text), λ reads. verdict-read s text reads)
 
+-- ---- the people of a run
+
+-- who is present after a run was so before it
+present-first : {P : model.Policy} {σ τ : State} {user : ℕ} → Run P σ τ → Present τ user → Present σ user
+unfolding model.granted model.revoked
+present-first model.stay here = here
+present-first (model.next run (model.assign listed can fresh)) here = present-first run (present-back _ _ _ here)
+present-first (model.next run (model.revoke listed can holds)) here = present-first run (present-back _ _ _ here)
+
 -- ---- the other verdicts, where the sets of the policy are words of 64 bits
 
 module _ (s : Said) (sized : SizedPolicy (policyOf s)) where
@@ -100,30 +115,41 @@ module _ (s : Said) (sized : SizedPolicy (policyOf s)) where
   unfolding policyOf
   goals-sized goal listed = sized .goals listed
 
-  attacked-told : {text : List ℕ} {v : TraceVerdict} {n u g : ℕ} → Outcome s text v → v ≡ TraceVerdict.Attacked n u g → Attacked s text n u g
-  attacked-told (no-trace reads) e = absurd (true≢false (cc))
-  attacked-told (stops told runs) e = absurd (true≢false (cc))
-  attacked-told (no-one told runs none) e = absurd (true≢false (cc))
-  attacked-told {u = u} {g = g} (someone {steps = steps} {last = last} {user = user} told runs one) e =
-      let user-is : firstBad last (s .goals) .user ≡ suc u = one ∙ ap suc (cc) in
-      let goal-is : firstBad last (s .goals) .goal ≡ g = cc in
-      record {
-        steps = steps;
-        reads = told;
-        counted = cc;
-        last = last;
-        follows = follows-exact sized (s .holdings) last steps .0 runs;
-        first = subst (FirstBad (s .goals) last) (λ i. record { user = user-is i; goal = goal-is i }) (bad-first goals-sized last (λ none. omega (arith, none, one)));
-      }
+  -- and where the holdings have a person for each user
+  module _ (people : length (s .holdings) ≡ length (s .users)) where
+    attacked-told : {text : List ℕ} {v : TraceVerdict} {n u : ℕ} {m : Name} {g : ℕ} → Outcome s text v → v ≡ TraceVerdict.Attacked n u m g → Attacked s text n u m g
+    unfolding nameAt
+    attacked-told (no-trace reads) e = absurd (true≢false (cc))
+    attacked-told (stops told runs) e = absurd (true≢false (cc))
+    attacked-told (no-one told runs none) e = absurd (true≢false (cc))
+    attacked-told {u = u} {m = m} {g = g} (someone {steps = steps} {last = last} {user = user} told runs one) e =
+        let place : user ≡ u = cc in
+        let user-is : firstBad last (s .goals) .user ≡ suc u = one ∙ ap suc place in
+        let goal-is : firstBad last (s .goals) .goal ≡ g = cc in
+        let name-is : nameAt (s .users) user ≡ m = cc in
+        let follows = follows-exact sized (s .holdings) last steps .0 runs in
+        let first = subst (FirstBad (s .goals) last) (λ i. record { user = user-is i; goal = goal-is i }) (bad-first goals-sized last (λ none. omega (arith, none, one))) in
+        let inside : u < length (s .users) = omega (arith, present-first (follows-run follows) (first .present) .listed, first .user-number, people) in
+        record {
+          steps = steps;
+          reads = told;
+          counted = cc;
+          last = last;
+          follows = follows;
+          first = first;
+          named = subst (λ (name : Name). At name (s .users) u) (ap (nameAt (s .users)) (sym place) ∙ name-is) (stands-at (packed []) (s .users) u inside);
+        }
 
-  -- ATTACKED exactly when the text is read as that many steps, they follow, and these are the first such user and that user's lowest goal.
-  pub attacked-exact : (text : List ℕ) (n u g : ℕ) → traceVerdict s text ≡ TraceVerdict.Attacked n u g ↔ Attacked s text n u g
-  attacked-exact text n u g = (attacked-told (outcome s text), λ a. given a (first-only goals-sized (a .last) (a .first)))
-    where
-      given : (a : Attacked s text n u g) → firstBad (a .last) (s .goals) ≡ record { user = suc u; goal = g } → traceVerdict s text ≡ TraceVerdict.Attacked n u g
-      given a found =
-          verdict-attacked s text (a .reads) (follows-exact sized (s .holdings) (a .last) (a .steps) .1 (a .follows)) (ap (λ (f : Found). f .user) found)
-          ∙ ap₂ (λ (m k : ℕ). TraceVerdict.Attacked m u k) (sym (a .counted)) (ap (λ (f : Found). f .goal) found)
+    -- ATTACKED exactly when the text is read as that many steps, they follow, and these are the first such user, that user's name and
+    -- lowest goal.
+    pub attacked-exact : (text : List ℕ) (n u : ℕ) (m : Name) (g : ℕ) → traceVerdict s text ≡ TraceVerdict.Attacked n u m g ↔ Attacked s text n u m g
+    unfolding nameAt
+    attacked-exact text n u m g = (attacked-told (outcome s text), λ a. given a (first-only goals-sized (a .last) (a .first)))
+      where
+        given : (a : Attacked s text n u m g) → firstBad (a .last) (s .goals) ≡ record { user = suc u; goal = g } → traceVerdict s text ≡ TraceVerdict.Attacked n u m g
+        given a found =
+            verdict-attacked s text (a .reads) (follows-exact sized (s .holdings) (a .last) (a .steps) .1 (a .follows)) (ap (λ (f : Found). f .user) found)
+            ∙ (λ i. TraceVerdict.Attacked (sym (a .counted) i) u (at-stands (packed []) (a .named) i) (found i .goal))
 
   broken-told : {text : List ℕ} {v : TraceVerdict} {n : ℕ} → Outcome s text v → v ≡ TraceVerdict.Broken n → Broken s text n
   broken-told (no-trace reads) e = absurd (true≢false (cc))
@@ -155,6 +181,6 @@ module _ (s : Said) (sized : SizedPolicy (policyOf s)) where
   )
 
 -- ATTACKED shows an attack on the policy: a run from the holdings that ends in a bad state.
-pub attacked-attack : {s : Said} {text : List ℕ} {n u g : ℕ} → Attacked s text n u g → Attack (policyOf s) (s .holdings)
+pub attacked-attack : {s : Said} {text : List ℕ} {n u : ℕ} {m : Name} {g : ℕ} → Attacked s text n u m g → Attack (policyOf s) (s .holdings)
 unfolding policyOf
 attacked-attack a = record { last = a .last; run = follows-run (a .follows); bad = first-is-bad (a .first) }

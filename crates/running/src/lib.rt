@@ -1,7 +1,8 @@
 // The verdict on a trace: every line is read, every step tried, and the last state judged.
 ghost use mathlib.Core.Path.{_≡_};
-ghost use Prim.Native.Nat.{_≤_};
+ghost use Prim.Native.Nat.{_*_, _≤_};
 ghost use lib.ListN.{length};
+ghost use Rattle.tables.specs.Names.{rows};
 ghost use Rattle.ledgers.specs.Ledger.{ledgerWords};
 ghost use Rattle.reading.specs.Ledger.{ledgerSays, Limited};
 ghost use Rattle.running.specs.Verdict.{endVerdict, traceVerdict};
@@ -10,6 +11,7 @@ use lines::Counts;
 use state::first_bad;
 use state::try_step;
 use steps::Found;
+use tables::Name;
 use traces::TraceLine;
 use traces::code;
 use traces::read_line;
@@ -20,17 +22,19 @@ mod state;
 pub enum TraceVerdict {
     // the refusal's number and line
     Refused(u64, usize),
-    // the number of steps, the user's place from 0 and the goal's number from 1
-    Attacked(usize, usize, usize),
+    // the number of steps, the user's place from 0, the user's name and the goal's number from 1
+    Attacked(usize, usize, Name, usize),
     // the number, from 1, of the first step that is not one
     Broken(usize),
     // the number of steps
     Short(usize),
 }
 
-// The verdict on a trace that was read: the first step that is not one, 0 where there is none, then who was found in the last state.
-fn ending(broken: usize, steps: usize, found: Found) -> TraceVerdict
-    ensures { λ r. ⌜ r ≡ endVerdict broken steps found ⌝ }
+// The verdict on a trace that was read: the first step that is not one, 0 where there is none, then who was found in the last state,
+// by the names of the policy's users.
+fn ending(broken: usize, steps: usize, found: Found, users: &[u64], count: usize) -> TraceVerdict
+    requires { ⌜ 4 * count ≤ length (now users) ⌝ }
+    ensures { λ r. ⌜ r ≡ endVerdict broken steps (rows count (now (users .entry))) found ⌝ }
 {
     if broken != 0 {
         return TraceVerdict::Broken(broken);
@@ -38,14 +42,15 @@ fn ending(broken: usize, steps: usize, found: Found) -> TraceVerdict
     if found.user == 0 {
         return TraceVerdict::Short(steps);
     }
-    TraceVerdict::Attacked(steps, found.user - 1, found.goal)
+    let user = found.user - 1;
+    let name = tables::name_at(users, count, user);
+    TraceVerdict::Attacked(steps, user, name, found.goal)
 }
 
 // The verdict on a trace text over the policy of a ledger, whose people it changes step by step. The first bad line decides a refusal; after the first step that is not one, lines are read on.
 pub fn run_trace(text: &[u8], ledger: &mut [u64], c: Counts) -> TraceVerdict
     requires { ⌜ (ledgerWords ≤ length (now ledger)) × Limited c ⌝ }
     ensures { λ r. ⌜ r ≡ traceVerdict (ledgerSays (now (ledger .entry)) c) (now (text .entry)) ⌝ }
-    ensures { λ _. ⌜ ledgerSays (now (ledger .exit)) c .users ≡ ledgerSays (now (ledger .entry)) c .users ⌝ }
 {
     let end = text.len();
     if 32768 < end {
@@ -71,7 +76,8 @@ pub fn run_trace(text: &[u8], ledger: &mut [u64], c: Counts) -> TraceVerdict
             if at < end {
                 return TraceVerdict::Refused(15, number);
             }
-            return ending(broken, steps, first_bad(ledger, c.users, c.goals));
+            let found = first_bad(ledger, c.users, c.goals);
+            return ending(broken, steps, found, &ledger[USERS..], c.users);
         }
         let answer = read_line(line, &ledger[USERS..], c);
         let TraceLine::Step(step) = answer else {

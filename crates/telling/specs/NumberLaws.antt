@@ -35,7 +35,7 @@ text-number false = refl
 pub check-width : (answer : Answer) → length (checkValues answer) ≡ 5
 unfolding checkValues padded
 check-width (Answer.Safe roles assigns revokes goals pinned) = refl
-check-width (Answer.Attacked steps user goal) = refl
+check-width (Answer.Attacked steps user name goal) = refl
 check-width (Answer.Unproved part number) = refl
 check-width (Answer.Broken step) = refl
 check-width (Answer.Short steps) = refl

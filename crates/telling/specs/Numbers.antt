@@ -3,6 +3,7 @@ use Prim.Native.Nat.{ℕ, _-_, _<_}
 use mathlib.Core.Bool.{cond}
 use mathlib.Core.List.{List, [], _∷_}
 use mathlib.Core.Path.{_≡_}
+use Rattle.tables.specs.declared.Name.{Name}
 use Rattle.tables.specs.Padded.{padded}
 use Rattle.places.specs.declared.BadPlace.{BadPlace}
 use Rattle.writing.specs.Written.{put}
@@ -43,4 +44,4 @@ pub record Told (number : ℕ) (values array : List ℕ) (answered : ℕ) (after
 
 -- Where an answer is ATTACKED, its user is one of 64 at most.
 pub record UserListed (answer : Answer) : Type 0 where
-  pub below : (steps user goal : ℕ) → answer ≡ Answer.Attacked steps user goal → user < 64
+  pub below : (steps user : ℕ) (name : Name) (goal : ℕ) → answer ≡ Answer.Attacked steps user name goal → user < 64

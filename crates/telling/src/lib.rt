@@ -43,7 +43,7 @@ pub fn tell_check(array: &mut [u64], answer: Answer) -> u64
             ],
             0,
         ),
-        Answer::Attacked(steps, user, goal) => {
+        Answer::Attacked(steps, user, _, goal) => {
             tell(
                 array,
                 &[steps as u64, user as u64 + 1, goal as u64, 0, 0],

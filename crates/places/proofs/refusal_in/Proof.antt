@@ -24,7 +24,7 @@ verdict-key (inr (inr (inr (inr is)))) = omega (arith, is)
 no-refusal : (a : Answer) → OneOf (0 ∷ 1 ∷ 2 ∷ 3 ∷ 4 ∷ []) (tagOf the-type a) → record { number = 0; line = 0 } ≡ refusalIn a
 unfolding refusalIn
 no-refusal (Answer.Safe roles assigns revokes goals pinned) tag = refl
-no-refusal (Answer.Attacked steps user goal) tag = refl
+no-refusal (Answer.Attacked steps user name goal) tag = refl
 no-refusal (Answer.Unproved part number) tag = refl
 no-refusal (Answer.Broken step) tag = refl
 no-refusal (Answer.Short steps) tag = refl

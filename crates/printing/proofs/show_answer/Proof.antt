@@ -9,8 +9,8 @@ use Rattle.printing.proofs.show_answer.Statement.{statement}
 use Rattle.printing.proofs.show_answer.Tie as tie
 
 -- the line is made in the array
-made : (c : tie.After-write-line) → Line (lineOf (c .before .before .before .pre .users) (c .before .before .before .args .answer)) 128 (replicate 128 0) (c .write-line .result) (c .write-line .last .0)
-made c = c .write-line .ensures (c .before .before .before .pre .users) (c .before .before .before .pre .is)
+made : (c : tie.After-write-line) → Line (lineOf (c .before .before .before .args .answer)) 128 (replicate 128 0) (c .write-line .result) (c .write-line .last .0)
+made c = c .write-line .ensures
 
 slice-aggregate-write-line : tie.Need-slice-aggregate-write-line
 slice-aggregate-write-line c = search needs
@@ -31,9 +31,9 @@ same-length : tie.Need-same-length
 same-length c = search needs
 
 returns : tie.Need-returns
-returns c = λ users name.
+returns c =
     let line = c .before .before .before .before .before .before in
-    shows-as (line .before .before .before .args .out .now) (taken (line .write-line .ensures users name)) (c .before .before .show-line .ensures)
+    shows-as (line .before .before .before .args .out .now) (taken (made line)) (c .before .before .show-line .ensures)
 
 pub show-answer-spec : {M : Type 1} → statement M
 show-answer-spec =

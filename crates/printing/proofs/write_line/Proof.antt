@@ -2,7 +2,7 @@
 use lib.Dec.{lit≤}
 use Rattle.showing.specs.Fields.{fieldsOn}
 use Rattle.printing.specs.Line.{lineOf}
-use Rattle.printing.specs.LineSteps.{known-line, attacked-name}
+use Rattle.printing.specs.LineSteps.{known-line}
 use borrow.Author.Needs.{needs}
 use Rattle.printing.proofs.write_line.Statement.{statement}
 use Rattle.printing.proofs.write_line.Tie as tie
@@ -72,41 +72,42 @@ same-length c = search needs
 
 returns : tie.Need-returns
 unfolding lineOf fieldsOn
-returns c = λ users is. known-line users (c .before .before .before .before .before .before .before .answer .given .1) (lit≤ tt) (c .before .before .number-line .ensures)
+returns c = known-line (c .before .before .before .before .before .before .before .answer .given .1) (lit≤ tt) (c .before .before .number-line .ensures)
 
 same-length-2 : tie.Need-same-length-2
 same-length-2 c = search needs
 
 returns-2 : tie.Need-returns-2
-returns-2 c = λ users is. known-line users (c .before .before .before .before .before .answer2 .given .1) (lit≤ tt) (attacked-name users (c .before .before .before .before .before .answer2 .given .1) is (c .before .before .attacked-line .ensures))
+unfolding lineOf
+returns-2 c = known-line (c .before .before .before .before .before .answer2 .given .1) (lit≤ tt) (c .before .before .attacked-line .ensures)
 
 same-length-3 : tie.Need-same-length-3
 same-length-3 c = search needs
 
 returns-3 : tie.Need-returns-3
 unfolding lineOf
-returns-3 c = λ users is. known-line users (c .before .before .before .before .before .answer3 .given .1) (lit≤ tt) (c .before .before .unproved-line .ensures)
+returns-3 c = known-line (c .before .before .before .before .before .answer3 .given .1) (lit≤ tt) (c .before .before .unproved-line .ensures)
 
 same-length-4 : tie.Need-same-length-4
 same-length-4 c = search needs
 
 returns-4 : tie.Need-returns-4
 unfolding lineOf fieldsOn
-returns-4 c = λ users is. known-line users (c .before .before .before .before .before .before .before .answer4 .given .1) (lit≤ tt) (c .before .before .number-line2 .ensures)
+returns-4 c = known-line (c .before .before .before .before .before .before .before .answer4 .given .1) (lit≤ tt) (c .before .before .number-line2 .ensures)
 
 same-length-5 : tie.Need-same-length-5
 same-length-5 c = search needs
 
 returns-5 : tie.Need-returns-5
 unfolding lineOf fieldsOn
-returns-5 c = λ users is. known-line users (c .before .before .before .before .before .before .before .answer5 .given .1) (lit≤ tt) (c .before .before .number-line3 .ensures)
+returns-5 c = known-line (c .before .before .before .before .before .before .before .answer5 .given .1) (lit≤ tt) (c .before .before .number-line3 .ensures)
 
 same-length-6 : tie.Need-same-length-6
 same-length-6 c = search needs
 
 returns-6 : tie.Need-returns-6
 unfolding lineOf fieldsOn
-returns-6 c = λ users is. known-line users (c .before .before .before .before .before .before .before .answer6 .given .1) (lit≤ tt) (c .before .before .number-line4 .ensures)
+returns-6 c = known-line (c .before .before .before .before .before .before .before .answer6 .given .1) (lit≤ tt) (c .before .before .number-line4 .ensures)
 
 pub write-line-spec : {M : Type 1} → statement M
 write-line-spec =

@@ -5,16 +5,19 @@ use Rattle.running.proofs.ending.Statement.{statement}
 use Rattle.running.proofs.ending.Tie as tie
 
 returns : tie.Need-returns
-returns c = end-broken _ _ _ (c .if1 .taken)
+returns c = end-broken _ _ _ _ (c .if1 .taken)
 
 returns-2 : tie.Need-returns-2
-returns-2 c = end-short _ _ _ (c .before .before .if1 .left) (c .if2 .taken)
+returns-2 c = end-short _ _ _ _ (c .before .before .if1 .left) (c .if2 .taken)
 
-sub-t5 : tie.Need-sub-t5
-sub-t5 c = search needs
+sub-user : tie.Need-sub-user
+sub-user c = search needs
+
+name-at-requires : tie.Need-name-at-requires
+name-at-requires c κs = search needs
 
 returns-3 : tie.Need-returns-3
-returns-3 c = end-attacked _ _ _ (c .before .before .before .if1 .left) (c .before .if2 .left)
+returns-3 c = end-attacked _ _ _ _ (c .before .before .before .before .if1 .left) (c .before .before .if2 .left) (c .name-at .ensures)
 
 pub ending-spec : {M : Type 1} → statement M
-ending-spec = tie.close (tie.spec returns returns-2 sub-t5 returns-3)
+ending-spec = tie.close (tie.spec returns returns-2 sub-user name-at-requires returns-3)

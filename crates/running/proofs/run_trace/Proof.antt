@@ -6,7 +6,6 @@ use lib.ListN.{length}
 use mathlib.Core.Logic.{⊎-elim}
 use mathlib.Core.Path.{_≡_, refl, sym, ap, _∙_}
 use native.Mathlib.Omega.{arith}
-use Rattle.reading.specs.Policy.{Said}
 use Rattle.reading.specs.Ledger.{ledgerSays}
 use Rattle.traces.specs.TraceText.{codeOf}
 use Rattle.traces.specs.TraceWalk.{trace-long, headless, no-line, line-open, line-more}
@@ -17,10 +16,10 @@ use Rattle.running.proofs.run_trace.Statement.{statement}
 use Rattle.running.proofs.run_trace.Tie as tie
 
 abbrev Inv-loop : tie.InvT-loop
-Inv-loop text ledger₀ c end steps₀ broken₀ at₀ number₀ t15 ledger steps broken at number = (length ledger ≡ length ledger₀) × Reached (ledgerSays ledger₀ c) c text at number steps broken ledger
+Inv-loop text ledger₀ c end steps₀ broken₀ at₀ number₀ t16 ledger steps broken at number = (length ledger ≡ length ledger₀) × Reached (ledgerSays ledger₀ c) c text at number steps broken ledger
 
 abbrev μ-loop : tie.MeasureT-loop
-μ-loop text ledger₀ c end steps₀ broken₀ at₀ number₀ t15 ledger steps broken at number = length text - at
+μ-loop text ledger₀ c end steps₀ broken₀ at₀ number₀ t16 ledger steps broken at number = length text - at
 
 -- the line that was sought ends within the text,
 inside : (c : tie.Else3 Inv-loop μ-loop) → c .before .seek .result < length (c .before .before .before .before .before .before .before .before .before .before .args .text .now)
@@ -38,7 +37,7 @@ line c =
     record { reached = at .loop .inv .1; limited = at .before .before .before .before .before .before .before .pre .1; sought = c .before .before .before .before .before .before .before .before .seek .ensures; here = inside (c .before .before .before .before .before .before .before); is-not = sym (c .before .before .before .before .same .ensures) ∙ c .before .before .before .if4 .left; given = c .read-line .ensures }
 
 returns : tie.Need-returns Inv-loop μ-loop
-returns c = (sym (run-refused _ _ _ _ .1 (trace-long _ _ _ _ (c .if1 .taken))), refl)
+returns c = sym (run-refused _ _ _ _ .1 (trace-long _ _ _ _ (c .if1 .taken)))
 
 slice-aggregate-begins-with : tie.Need-slice-aggregate-begins-with Inv-loop μ-loop
 slice-aggregate-begins-with c = search needs
@@ -47,7 +46,7 @@ begins-with-requires : tie.Need-begins-with-requires Inv-loop μ-loop
 begins-with-requires c κs = search needs
 
 returns-2 : tie.Need-returns-2 Inv-loop μ-loop
-returns-2 c = (sym (run-refused _ _ _ _ .1 (headless _ _ _ _ (c .before .before .before .if1 .left) (sym (c .before .begins-with .ensures) ∙ not-true _ (c .if2 .taken)))), refl)
+returns-2 c = sym (run-refused _ _ _ _ .1 (headless _ _ _ _ (c .before .before .before .if1 .left) (sym (c .before .begins-with .ensures) ∙ not-true _ (c .if2 .taken))))
 
 loop-holds : tie.Need-loop-holds Inv-loop μ-loop
 loop-holds c = (refl, reached-start _ _ _ (c .before .before .before .if1 .left) (sym (c .before .begins-with .ensures) ∙ not-false _ (c .if2 .left)))
@@ -59,7 +58,7 @@ same-length : tie.Need-same-length Inv-loop μ-loop
 same-length c = c .before .before .before .loop .inv .0
 
 returns-3 : tie.Need-returns-3 Inv-loop μ-loop
-returns-3 c = (sym (run-refused _ _ _ _ .1 (line-open (c .before .before .before .loop .inv .1 .after) (c .before .seek .ensures) (c .if3 .taken))), ap (λ (t : Said). t .users) (c .before .before .before .loop .inv .1 .says))
+returns-3 c = sym (run-refused _ _ _ _ .1 (line-open (c .before .before .before .loop .inv .1 .after) (c .before .seek .ensures) (c .if3 .taken)))
 
 sub-line : tie.Need-sub-line Inv-loop μ-loop
 sub-line c = omega (arith, c .before .seek .ensures)
@@ -88,21 +87,31 @@ same-length-2 c = c .before .before .before .before .before .before .before .bef
 returns-4 : tie.Need-returns-4 Inv-loop μ-loop
 returns-4 c =
     let within = c .before .before .before .before .before in
-    (sym (run-refused _ _ _ _ .1 (line-more (within .before .before .before .loop .inv .1 .after) (within .before .seek .ensures) (inside within) (sym (c .before .before .same .ensures) ∙ c .before .if4 .taken) (c .if5 .taken))), ap (λ (t : Said). t .users) (within .before .before .before .loop .inv .1 .says))
+    sym (run-refused _ _ _ _ .1 (line-more (within .before .before .before .loop .inv .1 .after) (within .before .seek .ensures) (inside within) (sym (c .before .before .same .ensures) ∙ c .before .if4 .taken) (c .if5 .taken)))
 
 first-bad-requires : tie.Need-first-bad-requires Inv-loop μ-loop
 first-bad-requires c κs = omega arith
 
+sub-ending : tie.Need-sub-ending Inv-loop μ-loop
+sub-ending c = omega arith
+
+part-ending-start : tie.Need-part-ending-start Inv-loop μ-loop
+part-ending-start c = search needs
+
+part-ending-end : tie.Need-part-ending-end Inv-loop μ-loop
+part-ending-end c = search needs
+
 ending-requires : tie.Need-ending-requires Inv-loop μ-loop
-ending-requires c κs = search needs
+ending-requires c κs = omega arith
 
 same-length-3 : tie.Need-same-length-3 Inv-loop μ-loop
-same-length-3 c = c .before .before .before .before .before .before .before .before .before .before .before .loop .inv .0
+same-length-3 c = c .before .before .before .before .before .before .before .before .before .before .before .before .before .loop .inv .0
 
 returns-5 : tie.Need-returns-5 Inv-loop μ-loop
 returns-5 c =
-    let within = c .before .before .before .before .before .before .before .before in
-    (reached-last (within .before .before .before .loop .inv .1) (within .before .seek .ensures) (inside within) (sym (c .before .before .before .before .before .same .ensures) ∙ c .before .before .before .before .if4 .taken) (c .before .before .before .if5 .left) (c .before .first-bad .ensures) (c .ending .ensures), ap (λ (t : Said). t .users) (within .before .before .before .loop .inv .1 .says))
+    let found = c .before .before .before in
+    let within = found .before .before .before .before .before .before .before in
+    reached-last (within .before .before .before .loop .inv .1) (within .before .seek .ensures) (inside within) (sym (found .before .before .before .before .same .ensures) ∙ found .before .before .before .if4 .taken) (found .before .before .if5 .left) (found .first-bad .ensures) (c .ending .ensures)
 
 sub-read-line : tie.Need-sub-read-line Inv-loop μ-loop
 sub-read-line c = omega arith
@@ -131,7 +140,7 @@ same-length-4 c = c .before .before .before .before .before .before .before .bef
 returns-6 : tie.Need-returns-6 Inv-loop μ-loop
 unfolding codeOf
 returns-6 c =
-    (ap (λ (k : ℕ). TraceVerdict.Refused k (c .before .before .before .before .before .before .before .before .before .before .before .before .before .loop .number)) (c .code .ensures ∙ ap codeOf (c .before .enum-told .given .1)) ∙ reached-bad (line (c .before .before .before)) (c .before .enum-told .given .1), ap (λ (t : Said). t .users) (line (c .before .before .before) .reached .says))
+    ap (λ (k : ℕ). TraceVerdict.Refused k (c .before .before .before .before .before .before .before .before .before .before .before .before .before .loop .number)) (c .code .ensures ∙ ap codeOf (c .before .enum-told .given .1)) ∙ reached-bad (line (c .before .before .before)) (c .before .enum-told .given .1)
 
 add-steps : tie.Need-add-steps Inv-loop μ-loop
 add-steps c = omega (arith, c .before .before .before .before .before .before .before .before .before .before .before .before .before .loop .inv .1 .after .on)
@@ -162,7 +171,7 @@ same-length-5 : tie.Need-same-length-5 Inv-loop μ-loop
 same-length-5 c = c .before .loop .inv .0
 
 returns-7 : tie.Need-returns-7 Inv-loop μ-loop
-returns-7 c = (sym (run-refused _ _ _ _ .1 (no-line (c .before .loop .inv .1 .after) (c .loop-test .left))), ap (λ (t : Said). t .users) (c .before .loop .inv .1 .says))
+returns-7 c = sym (run-refused _ _ _ _ .1 (no-line (c .before .loop .inv .1 .after) (c .loop-test .left)))
 
 pub run-trace-spec : {M : Type 1} → statement M
 run-trace-spec =
@@ -188,6 +197,9 @@ run-trace-spec =
     same-length-2
     returns-4
     first-bad-requires
+    sub-ending
+    part-ending-start
+    part-ending-end
     ending-requires
     same-length-3
     returns-5

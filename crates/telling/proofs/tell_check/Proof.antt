@@ -24,7 +24,7 @@ enum-known-answer-2 : tie.Need-enum-known-answer-2
 enum-known-answer-2 c = search needs
 
 add-t33 : tie.Need-add-t33
-add-t33 c = record { fits = omega (arith, c .before .before .before .before .before .pre .1 .below _ _ _ (c .before .before .answer2 .given .1)) }
+add-t33 c = record { fits = omega (arith, c .before .before .before .before .before .pre .1 .below _ _ _ _ (c .before .before .answer2 .given .1)) }
 
 slice-aggregate-tell-2 : tie.Need-slice-aggregate-tell-2
 slice-aggregate-tell-2 c = search needs
