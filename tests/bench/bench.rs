@@ -27,8 +27,8 @@ use answers::Said;
 use chance::Chance;
 use library::Memory;
 use texts::{crowded, every_place, full, full_of_has, full_of_sets, halves, only_read, read_only};
-use texts::{spelt, sum_of, trace, twice};
-use texts::{Closing, Input, TEXT_LIMIT};
+use texts::{spelt, sum_of, trace, trace_of_many, twice};
+use texts::{Closing, Coming, Input, TEXT_LIMIT};
 
 /// A time is the median of at least this many calls.
 const CALLS: usize = 9;
@@ -452,6 +452,7 @@ fn main() {
         full(128, Closing::ManyRounds),
         trace(2_000),
     ];
+    let traces = [trace_of_many(2_000, Coming::Listed), trace_of_many(2_000, Coming::Joined)];
     let merge = [halves(128, Closing::OneRound), halves(128, Closing::ManyRounds)];
     let sum: Vec<Input> = merge.iter().map(sum_of).collect();
     let spell = [
@@ -481,6 +482,11 @@ fn main() {
     println!("Lent memory is noise at first, and for each call what the one before left in it.");
     println!("\n## Check\n");
     let checked = print_times(&check, &mut library);
+    println!("\n## Joins and leaves\n");
+    let traced = print_times(&traces, &mut library);
+    println!();
+    let listed = &traced[..1];
+    print_multiples("times as many steps over listed users", &traces[1..], &traced[1..], listed);
     println!("\n## Sum\n");
     print_times(&sum, &mut library);
     println!("\n## Merge\n");
@@ -504,7 +510,7 @@ fn main() {
     }
 
     println!("## Stack\n");
-    let checks = [check.to_vec(), growth.concat()].concat();
+    let checks = [check.to_vec(), traces.to_vec(), growth.concat()].concat();
     let merges = [checks.iter().map(twice).collect(), merge.to_vec()].concat();
     let spellings = checks.iter().map(|check| spelt(&check.name, check)).collect();
     let spellings = [spellings, spell.to_vec()].concat();

@@ -1,7 +1,7 @@
 //! The texts that are measured: policies of any size with typings that close in one round or in
-//! many, a long trace, policies to be spelt, and ordinary texts with a hostile one among them.
+//! many, long traces, policies to be spelt, and ordinary texts with a hostile one among them.
 
-use crate::drafts::{Assign, Policy, Revoke, RoleType, Step, User};
+use crate::drafts::{Assign, Policy, Revoke, RoleType, Step, Trace, User};
 
 pub const TEXT_LIMIT: usize = 32_768;
 
@@ -193,9 +193,9 @@ pub fn halves(roles: usize, closing: Closing) -> Input {
     Input::new(&name, &[&text, &typing, &text, &typing])
 }
 
-/// A role given and taken in turn, over two users.
-pub fn trace(steps: usize) -> Input {
-    let policy = Policy {
+/// A policy of two users, of whom one gives and takes a role.
+fn giving() -> Policy {
+    Policy {
         roles: vec![b"adm".to_vec(), b"pay".to_vec()],
         users: vec![
             User { name: b"a".to_vec(), high: true },
@@ -205,11 +205,62 @@ pub fn trace(steps: usize) -> Input {
         assigns: vec![Assign { admin: 0, positive: Vec::new(), negative: Vec::new(), target: 1 }],
         revokes: vec![Revoke { admin: 0, target: 1 }],
         goals: vec![vec![1]],
-    };
-    let trace: Vec<Step> = (0..steps)
-        .map(|place| Step { assign: place % 2 == 0, actor: 0, number: 1, user: 1 })
-        .collect();
+    }
+}
+
+/// The role given to a user and taken in turn.
+fn in_turn(steps: usize, user: usize) -> impl Iterator<Item = Step> {
+    (0..steps).map(move |place| {
+        Step::Rule { assign: place % 2 == 0, actor: 0, number: 1, user: user }
+    })
+}
+
+/// Steps that are all on one listed user.
+pub fn trace(steps: usize) -> Input {
+    let policy = giving();
+    let trace = Trace::without_joiners(in_turn(steps, 1).collect());
     let name = format!("trace of {} steps", steps);
+    Input::new(&name, &[&policy.text(), &policy.trace_text(&trace)])
+}
+
+/// How the users of a trace come to be there.
+#[derive(Clone, Copy)]
+pub enum Coming {
+    Listed,
+    Joined,
+}
+
+/// Every name of one byte but for the two of `giving`.
+const OTHERS: &[u8] = b"cdefghijklmnopqrstuvwxyzABCDEFGHIJKLMNOPQRSTUVWXYZ0123456789_";
+
+/// Steps on many users, as many on each, one user after the other. Those who are not listed join
+/// before and leave after, and these are steps too.
+pub fn trace_of_many(steps: usize, coming: Coming) -> Input {
+    let mut policy = giving();
+    let first = policy.users.len();
+    let mut trace = Trace::without_joiners(Vec::new());
+    let names = OTHERS.iter().map(|&byte| vec![byte]);
+    match coming {
+        Coming::Listed => policy.users.extend(names.map(|name| User { name: name, high: true })),
+        Coming::Joined => trace.joiners.extend(names),
+    }
+    for place in 0..OTHERS.len() {
+        let user = first + place;
+        let share = (place + 1) * steps / OTHERS.len() - trace.steps.len();
+        match coming {
+            Coming::Listed => trace.steps.extend(in_turn(share, user)),
+            Coming::Joined => {
+                trace.steps.push(Step::Join { user: user, high: true });
+                trace.steps.extend(in_turn(share - 2, user));
+                trace.steps.push(Step::Leave { user: user });
+            }
+        }
+    }
+    let come = match coming {
+        Coming::Listed => "are listed",
+        Coming::Joined => "join and leave",
+    };
+    let name = format!("trace of {} steps over {} users who {}", steps, OTHERS.len(), come);
     Input::new(&name, &[&policy.text(), &policy.trace_text(&trace)])
 }
 

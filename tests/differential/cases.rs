@@ -7,6 +7,7 @@ use crate::texts::Texts;
 mod checks;
 mod counts;
 mod damaged;
+mod joins;
 mod lengths;
 mod merges;
 mod reorderings;
@@ -34,15 +35,16 @@ enum Way {
     AtLimit(fn(&mut Chance, usize) -> Case),
 }
 
-/// The cases from 1 to this number are those of document 01; the others are for `spell`.
+/// The cases from 1 to this number are for `check`, `sum` and `merge`; the others for `spell`.
 const BASE: u64 = 210_000;
 
 /// The ways, and how many of a thousand cases in a row are made so.
-const BASE_WAYS: [(usize, Way); 16] = [
-    (195, Way::Random("a typing", checks::typing)),
+const BASE_WAYS: [(usize, Way); 18] = [
+    (131, Way::Random("a typing", checks::typing)),
     (15, Way::Random("a typing that is a chain of all roles", checks::chain)),
-    (182, Way::Random("a trace", checks::trace)),
-    (150, Way::Random("a damaged policy or evidence", damaged::check)),
+    (192, Way::Random("a trace", checks::trace)),
+    (130, Way::Random("a damaged policy or evidence", damaged::check)),
+    (60, Way::Random("a damaged trace", damaged::trace)),
     (55, Way::Random("a sum", sums::sum)),
     (95, Way::Random("a damaged sum", damaged::sum)),
     (134, Way::Random("a merge", merges::merge)),
@@ -54,6 +56,7 @@ const BASE_WAYS: [(usize, Way); 16] = [
     (5, Way::AtLimit(counts::count)),
     (1, Way::AtLimit(counts::all_counts)),
     (3, Way::AtLimit(counts::joint_count)),
+    (14, Way::AtLimit(joins::names)),
     (5, Way::AtLimit(lengths::length)),
 ];
 

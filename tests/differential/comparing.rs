@@ -286,7 +286,7 @@ impl<'a> Comparing<'a> {
     /// there is none; and now and then the bad line where a typing is wanted.
     fn check(&mut self, policy: &[u8], evidence: &[u8]) {
         let answer = reference::check(policy, evidence);
-        self.count(rows::check(&answer));
+        self.count(rows::check(policy, evidence, &answer));
         self.told(&CHECK, 0, &Said::check(&answer), &|_, values, memory| {
             library::check(policy, evidence, values, memory)
         });

@@ -1,5 +1,5 @@
 //! Drafts: policies, typings and traces whose roles and users are places from 0, and the texts that
-//! say them.
+//! say them. In a trace the places of the joiners follow those of the listed users.
 
 #[derive(Clone)]
 pub struct User {
@@ -41,12 +41,24 @@ pub struct RoleType {
 }
 
 #[derive(Clone)]
-pub struct Step {
-    pub assign: bool,
-    pub actor: usize,
-    /// From 1, as it is written.
-    pub number: usize,
-    pub user: usize,
+pub enum Step {
+    /// Under an assign rule or a revoke rule; `number` is from 1, as it is written.
+    Rule { assign: bool, actor: usize, number: usize, user: usize },
+    Join { user: usize, high: bool },
+    Leave { user: usize },
+}
+
+#[derive(Clone)]
+pub struct Trace {
+    /// The names that are not listed.
+    pub joiners: Vec<Vec<u8>>,
+    pub steps: Vec<Step>,
+}
+
+impl Trace {
+    pub fn without_joiners(steps: Vec<Step>) -> Trace {
+        Trace { joiners: Vec::new(), steps: steps }
+    }
 }
 
 fn level(high: bool) -> &'static [u8] {
@@ -130,20 +142,23 @@ impl Policy {
         text
     }
 
-    pub fn trace_text(&self, steps: &[Step]) -> Vec<u8> {
+    pub fn trace_text(&self, trace: &Trace) -> Vec<u8> {
+        let listed = self.users.iter().map(|user| &user.name);
+        let names: Vec<&Vec<u8>> = listed.chain(&trace.joiners).collect();
         let mut text = Vec::new();
         put_line(&mut text, &[b"trace", b"1"]);
-        for step in steps {
-            let kind: &[u8] = if step.assign { b"assign" } else { b"revoke" };
-            put_line(
-                &mut text,
-                &[
-                    kind,
-                    &self.users[step.actor].name,
-                    step.number.to_string().as_bytes(),
-                    &self.users[step.user].name,
-                ],
-            );
+        for step in &trace.steps {
+            match *step {
+                Step::Rule { assign, actor, number, user } => {
+                    let kind: &[u8] = if assign { b"assign" } else { b"revoke" };
+                    let number = number.to_string();
+                    put_line(&mut text, &[kind, names[actor], number.as_bytes(), names[user]]);
+                }
+                Step::Join { user, high } => {
+                    put_line(&mut text, &[b"join", names[user], level(high)]);
+                }
+                Step::Leave { user } => put_line(&mut text, &[b"leave", names[user]]),
+            }
         }
         put_line(&mut text, &[b"end"]);
         text

@@ -1,29 +1,116 @@
 //! The row of the table that an answer counts in.
 
-use crate::reference::{Answer, BadLine, Merge, Spelling, Sum};
+use crate::reference::{self, Answer, BadLine, Merge, Spelling, Sum};
 
-pub fn check(answer: &Answer) -> &'static str {
+pub fn check(policy: &[u8], evidence: &[u8], answer: &Answer) -> &'static str {
     match answer {
         Answer::Safe { .. } => "check 0 SAFE",
-        Answer::Attacked { .. } => "check 1 ATTACKED",
+        Answer::Attacked { user: 63, .. } => "check 1 ATTACKED, the user of number 64",
+        Answer::Attacked { user_name, .. } if speaks(&lines(evidence), b"join", user_name) => {
+            "check 1 ATTACKED, a joiner"
+        }
+        Answer::Attacked { .. } => "check 1 ATTACKED, a listed user",
         Answer::Unproved { part, .. } => [
             "check 2 UNPROVED holdings",
             "check 2 UNPROVED assign",
             "check 2 UNPROVED revoke",
             "check 2 UNPROVED goal",
         ][*part as usize],
-        Answer::Broken { .. } => "check 3 BROKEN",
-        Answer::Short { .. } => "check 4 SHORT",
-        Answer::Refused { number, .. } => {
-            ["check 10", "check 11", "check 12", "check 13", "check 14", "check 15", "check 16"]
-                [*number as usize - 10]
-        }
+        Answer::Broken { step } => broken(&lines(evidence), *step as usize),
+        Answer::Short { .. } => short(policy, evidence),
+        Answer::Refused { number, line } => match number {
+            10 => "check 10",
+            11 => "check 11",
+            12 => "check 12",
+            13 => "check 13",
+            14 => "check 14",
+            15 => malformed(evidence, *line as usize),
+            16 => unknown(evidence, *line as usize),
+            21 => "check 21",
+            _ => panic!("the documents have no such answer of check"),
+        },
+    }
+}
+
+fn is_trace(evidence: &[u8]) -> bool {
+    evidence.starts_with(b"trace\t1\n")
+}
+
+/// The fields of each line.
+type Lines<'a> = Vec<Vec<&'a [u8]>>;
+
+fn lines(text: &[u8]) -> Lines<'_> {
+    let fields = |line| <[u8]>::split(line, |&byte| byte == b'\t').collect();
+    text.split(|&byte| byte == b'\n').map(fields).collect()
+}
+
+/// Whether one of these lines is a join or a leave of this name.
+fn speaks(lines: &[Vec<&[u8]>], kind: &[u8], name: &[u8]) -> bool {
+    lines.iter().any(|line| line[0] == kind && line.len() > 1 && line[1] == name)
+}
+
+/// The row for the step of this number, which is none.
+fn broken(lines: &Lines, step: usize) -> &'static str {
+    // the first line of a trace has number 0 here
+    let above = &lines[..step];
+    let joined = |name| speaks(above, b"join", name);
+    let left = |name| speaks(above, b"leave", name);
+    match lines[step].as_slice() {
+        [b"join", name, _] if left(name) => "check 3 BROKEN, a join of somebody who left",
+        [b"join", name, _] if joined(name) => "check 3 BROKEN, a join of a joiner",
+        [b"join", ..] => "check 3 BROKEN, a join of a listed user",
+        [b"leave", _] => "check 3 BROKEN, a leave",
+        [_, actor, ..] if left(actor) => "check 3 BROKEN, a step by somebody who left",
+        [_, _, _, user] if left(user) => "check 3 BROKEN, a step on somebody who left",
+        [b"assign", ..] => "check 3 BROKEN, an assign step",
+        _ => "check 3 BROKEN, a revoke step",
+    }
+}
+
+fn short(policy: &[u8], evidence: &[u8]) -> &'static str {
+    let lines = lines(evidence);
+    let is_there = |kind: &[u8]| lines.iter().any(|line| line[0] == kind);
+    match reference::check(policy, &with_low_joiners(&lines)) {
+        Answer::Attacked { .. } => "check 4 SHORT, a joiner of clearance H holds a goal",
+        _ if is_there(b"leave") => "check 4 SHORT, somebody leaves",
+        _ if is_there(b"join") => "check 4 SHORT, somebody joins and nobody leaves",
+        _ => "check 4 SHORT, nobody joins or leaves",
+    }
+}
+
+/// A trace in which everybody who joins is L.
+fn with_low_joiners(lines: &Lines) -> Vec<u8> {
+    let low = |line: &Vec<&[u8]>| match line.as_slice() {
+        [b"join", name, _] => [b"join", *name, b"L"].join(&b'\t'),
+        _ => line.join(&b'\t'),
+    };
+    lines.iter().map(low).collect::<Vec<_>>().join(&b'\n')
+}
+
+/// The row for evidence that is malformed at the line of this number.
+fn malformed(evidence: &[u8], number: usize) -> &'static str {
+    match lines(evidence)[number - 1][0] {
+        b"join" if is_trace(evidence) => "check 15, a join line",
+        b"leave" if is_trace(evidence) => "check 15, a leave line",
+        _ => "check 15, another line",
+    }
+}
+
+/// The row for evidence with an unknown name at the line of this number.
+fn unknown(evidence: &[u8], number: usize) -> &'static str {
+    let lines = lines(evidence);
+    let joins_below = |name: &&[u8]| speaks(&lines[number..], b"join", name);
+    if is_trace(evidence) && lines[number - 1].iter().any(joins_below) {
+        "check 16, a name above its join line"
+    } else {
+        "check 16, another line"
     }
 }
 
 pub fn bad_line(answer: &Answer, bad: &BadLine) -> &'static str {
     match answer {
         Answer::Refused { line: 0, .. } => "no bad line: a text is too long",
+        Answer::Refused { number: 21, .. } => "no bad line: a user name too many",
         Answer::Refused { .. }
             if *bad == (BadLine { in_evidence: false, offset: 0, length: 0 }) =>
         {
@@ -37,9 +124,7 @@ pub fn bad_line(answer: &Answer, bad: &BadLine) -> &'static str {
 
 pub fn bad_typing_line(typing: &[u8], bad: &BadLine) -> &'static str {
     match bad {
-        BadLine { in_evidence: true, .. } if typing.starts_with(b"trace\t1\n") => {
-            "a trace where a typing is wanted"
-        }
+        BadLine { in_evidence: true, .. } if is_trace(typing) => "a trace where a typing is wanted",
         BadLine { in_evidence: true, .. } => "bad line where a typing is wanted",
         BadLine { offset: 0, length: 0, .. } => "no bad line where a typing is wanted",
         _ => "bad line in the policy where a typing is wanted",

@@ -1,6 +1,6 @@
-//! Document 01 ("What we will build and its rules") and request 1 of document 02 ("Later requests
-//! from customers") in ordinary Rust, written from their words alone, to be compared with other
-//! programs that follow the same documents.
+//! Document 01 ("What we will build and its rules") and requests 1 and 2 of document 02 ("Later
+//! requests from customers") in ordinary Rust, written from their words alone, to be compared with
+//! other programs that follow the same documents.
 //!
 //! Roles, users and rules are known by their place from 0 inside; answers count rules, goals,
 //! steps and lines from 1, as the documents do.
@@ -26,7 +26,8 @@ pub const PART_GOAL: u64 = 3;
 #[derive(Clone, Debug, PartialEq, Eq)]
 pub enum Answer {
     Safe { roles: u64, assigns: u64, revokes: u64, goals: u64, pinned: u64 },
-    /// `user` is the place from 0, `goal` the number from 1.
+    /// `user` is the place from 0, where users who joined follow the listed ones in order of
+    /// joining; `goal` is the number from 1.
     Attacked { steps: u64, user: u64, user_name: Vec<u8>, goal: u64 },
     /// `part`: 0 holdings, 1 assign, 2 revoke, 3 goal.
     Unproved { part: u64, number: u64 },
@@ -139,11 +140,21 @@ enum Step {
     /// `rule` is the place from 0.
     Assign { actor: usize, rule: usize, user: usize },
     Revoke { actor: usize, rule: usize, user: usize },
+    Join { user: usize, clearance: Level },
+    Leave { user: usize },
+}
+
+#[derive(Clone, Debug)]
+struct Trace {
+    steps: Vec<Step>,
+    /// The names listed, then the others that join lines name, in the order of these lines.
+    user_names: Vec<Vec<u8>>,
+    user_places: HashMap<Vec<u8>, usize>,
 }
 
 enum Evidence {
     Typing(Typing),
-    Trace(Vec<Step>),
+    Trace(Trace),
 }
 
 // ---------------------------------------------------------------------------------------------
@@ -179,7 +190,7 @@ impl Stop {
         match self.fault {
             Fault::TooLong => 14,
             Fault::Malformed => 15,
-            Fault::Limit => unreachable!("evidence lines have no count limit"),
+            Fault::Limit => 21,
             Fault::Name => 16,
         }
     }
@@ -250,6 +261,11 @@ impl<'a> Lines<'a> {
 
 // ---------------------------------------------------------------------------------------------
 // Fields
+
+/// The first field of a line.
+fn keyword(bytes: &[u8]) -> &[u8] {
+    bytes.split(|&byte| byte == b'\t').next().unwrap_or(b"")
+}
 
 /// The fields of a line, which must be `count` in number.
 fn fields(bytes: &[u8], count: usize) -> Result<Vec<&[u8]>, Fault> {
@@ -339,8 +355,7 @@ impl Policy {
     /// Takes in one line between the first line and `end`. In each kind everything that can be
     /// malformed comes first, then the count limit, then the declared names.
     fn take(&mut self, bytes: &[u8]) -> Result<(), Fault> {
-        let keyword = bytes.split(|&byte| byte == b'\t').next().unwrap_or(b"");
-        let section = match keyword {
+        let section = match keyword(bytes) {
             b"role" => Section::Role,
             b"user" => Section::User,
             b"has" => Section::Has,
@@ -532,39 +547,83 @@ fn read_role_line(
     Ok((label, policy.roles(&plus)?, policy.roles(&minus)?))
 }
 
-fn read_trace_after_first(policy: &Policy, mut lines: Lines) -> Result<Vec<Step>, Stop> {
-    let mut steps = Vec::new();
+fn read_trace_after_first(policy: &Policy, mut lines: Lines) -> Result<Trace, Stop> {
+    let mut trace = Trace::empty(policy);
     loop {
         let line = lines.next()?;
         if line.bytes == b"end" {
             lines.nothing_more()?;
-            return Ok(steps);
+            return Ok(trace);
         }
-        steps.push(read_step(policy, line.bytes).map_err(|fault| line.stop(fault))?);
+        trace.take(policy, line.bytes).map_err(|fault| line.stop(fault))?;
     }
 }
 
-fn read_step(policy: &Policy, bytes: &[u8]) -> Result<Step, Fault> {
-    let fields = fields(bytes, 4)?;
-    let is_assign = match fields[0] {
-        b"assign" => true,
-        b"revoke" => false,
-        _ => return Err(Fault::Malformed),
-    };
-    let actor = read_name(fields[1])?;
-    let number = read_number(fields[2])?;
-    let user = read_name(fields[3])?;
-    let actor = policy.user(actor)?;
-    let user = policy.user(user)?;
-    let count = if is_assign { policy.assigns.len() } else { policy.revokes.len() };
-    if number > count {
-        return Err(Fault::Name);
+impl Trace {
+    fn empty(policy: &Policy) -> Trace {
+        Trace {
+            steps: Vec::new(),
+            user_names: policy.user_names.clone(),
+            user_places: policy.user_places.clone(),
+        }
     }
-    let rule = number - 1;
-    if is_assign {
-        Ok(Step::Assign { actor: actor, rule: rule, user: user })
-    } else {
-        Ok(Step::Revoke { actor: actor, rule: rule, user: user })
+
+    /// The place of a name that is listed or joined on a line above, whatever the run does there.
+    fn user(&self, name: &[u8]) -> Result<usize, Fault> {
+        self.user_places.get(name).copied().ok_or(Fault::Name)
+    }
+
+    /// Takes in one line between the first line and `end`.
+    fn take(&mut self, policy: &Policy, bytes: &[u8]) -> Result<(), Fault> {
+        let step = match keyword(bytes) {
+            b"assign" => {
+                let (actor, rule, user) = self.read_rule_step(bytes, policy.assigns.len())?;
+                Step::Assign { actor: actor, rule: rule, user: user }
+            }
+            b"revoke" => {
+                let (actor, rule, user) = self.read_rule_step(bytes, policy.revokes.len())?;
+                Step::Revoke { actor: actor, rule: rule, user: user }
+            }
+            b"join" => self.read_join(bytes)?,
+            b"leave" => {
+                let fields = fields(bytes, 2)?;
+                Step::Leave { user: self.user(read_name(fields[1])?)? }
+            }
+            _ => return Err(Fault::Malformed),
+        };
+        self.steps.push(step);
+        Ok(())
+    }
+
+    /// Actor, rule and user of a step under one of so many rules.
+    fn read_rule_step(&self, bytes: &[u8], rules: usize) -> Result<(usize, usize, usize), Fault> {
+        let fields = fields(bytes, 4)?;
+        let actor = read_name(fields[1])?;
+        let number = read_number(fields[2])?;
+        let user = read_name(fields[3])?;
+        let actor = self.user(actor)?;
+        let user = self.user(user)?;
+        if number > rules {
+            return Err(Fault::Name);
+        }
+        Ok((actor, number - 1, user))
+    }
+
+    /// A name that is not known becomes so, up to the limit for policy and trace together.
+    fn read_join(&mut self, bytes: &[u8]) -> Result<Step, Fault> {
+        let fields = fields(bytes, 3)?;
+        let name = read_name(fields[1])?;
+        let clearance = read_level(fields[2])?;
+        if let Ok(known) = self.user(name) {
+            return Ok(Step::Join { user: known, clearance: clearance });
+        }
+        let user = self.user_names.len();
+        if user == USER_LIMIT {
+            return Err(Fault::Limit);
+        }
+        self.user_places.insert(name.to_vec(), user);
+        self.user_names.push(name.to_vec());
+        Ok(Step::Join { user: user, clearance: clearance })
     }
 }
 
@@ -718,37 +777,77 @@ fn pinned(typing: &Typing) -> u64 {
 // ---------------------------------------------------------------------------------------------
 // Judging a trace
 
-/// Does the step if it is one, and tells whether it is.
-fn do_step(policy: &Policy, state: &mut [Roles], step: &Step) -> bool {
+/// Somebody who is listed or has joined; one who left is not present and holds nothing.
+struct Person {
+    clearance: Level,
+    present: bool,
+    holds: Roles,
+}
+
+/// The listed users with what they hold at the start.
+fn first_state(policy: &Policy) -> Vec<Person> {
+    let users = policy.clearances.iter().zip(&policy.holdings);
+    users
+        .map(|(&clearance, holds)| Person {
+            clearance: clearance,
+            present: true,
+            holds: holds.clone(),
+        })
+        .collect()
+}
+
+/// Does the step if it is one, and tells whether it is. All steps before it are done, so the state
+/// has a person for each name known above the step's line, and a name that is not has the next
+/// place.
+fn do_step(policy: &Policy, state: &mut Vec<Person>, step: &Step) -> bool {
     match *step {
         Step::Assign { actor, rule, user } => {
             let rule = &policy.assigns[rule];
-            let possible = state[actor].contains(&rule.admin)
-                && rule.positive.is_subset(&state[user])
-                && rule.negative.is_disjoint(&state[user])
-                && !state[user].contains(&rule.target);
+            let possible = state[actor].present
+                && state[actor].holds.contains(&rule.admin)
+                && state[user].present
+                && rule.positive.is_subset(&state[user].holds)
+                && rule.negative.is_disjoint(&state[user].holds)
+                && !state[user].holds.contains(&rule.target);
             if possible {
-                state[user].insert(rule.target);
+                state[user].holds.insert(rule.target);
             }
             possible
         }
         Step::Revoke { actor, rule, user } => {
             let rule = &policy.revokes[rule];
-            let possible =
-                state[actor].contains(&rule.admin) && state[user].contains(&rule.target);
+            let possible = state[actor].present
+                && state[actor].holds.contains(&rule.admin)
+                && state[user].present
+                && state[user].holds.contains(&rule.target);
             if possible {
-                state[user].remove(&rule.target);
+                state[user].holds.remove(&rule.target);
             }
+            possible
+        }
+        Step::Join { user, clearance } => {
+            let possible = user == state.len();
+            if possible {
+                let holds = Roles::new();
+                state.push(Person { clearance: clearance, present: true, holds: holds });
+            }
+            possible
+        }
+        Step::Leave { user } => {
+            let possible = state[user].present;
+            state[user].present = false;
+            state[user].holds.clear();
             possible
         }
     }
 }
 
-/// The first L user that holds all of some goal, and that user's lowest goal, both from 0.
-fn first_victim(policy: &Policy, state: &[Roles]) -> Option<(usize, usize)> {
-    for (user, holds) in state.iter().enumerate() {
-        if policy.clearances[user] == Level::L {
-            if let Some(goal) = policy.goals.iter().position(|goal| goal.is_subset(holds)) {
+/// The first present L user that holds all of some goal, and that user's lowest goal, both from 0.
+fn first_victim(policy: &Policy, state: &[Person]) -> Option<(usize, usize)> {
+    for (user, person) in state.iter().enumerate() {
+        if person.present && person.clearance == Level::L {
+            let goal = policy.goals.iter().position(|goal| goal.is_subset(&person.holds));
+            if let Some(goal) = goal {
                 return Some((user, goal));
             }
         }
@@ -756,21 +855,22 @@ fn first_victim(policy: &Policy, state: &[Roles]) -> Option<(usize, usize)> {
     None
 }
 
-fn judge_trace(policy: &Policy, steps: &[Step]) -> Answer {
-    let mut state = policy.holdings.clone();
-    for (place, step) in steps.iter().enumerate() {
+fn judge_trace(policy: &Policy, trace: &Trace) -> Answer {
+    let mut state = first_state(policy);
+    for (place, step) in trace.steps.iter().enumerate() {
         if !do_step(policy, &mut state, step) {
             return Answer::Broken { step: place as u64 + 1 };
         }
     }
+    let steps = trace.steps.len() as u64;
     match first_victim(policy, &state) {
         Some((user, goal)) => Answer::Attacked {
-            steps: steps.len() as u64,
+            steps: steps,
             user: user as u64,
-            user_name: policy.user_names[user].clone(),
+            user_name: trace.user_names[user].clone(),
             goal: goal as u64 + 1,
         },
-        None => Answer::Short { steps: steps.len() as u64 },
+        None => Answer::Short { steps: steps },
     }
 }
 
@@ -799,7 +899,7 @@ pub fn check(policy: &[u8], evidence: &[u8]) -> Answer {
     };
     match read_evidence(&policy, evidence) {
         Ok(Evidence::Typing(typing)) => judge_typing(&policy, &typing),
-        Ok(Evidence::Trace(steps)) => judge_trace(&policy, &steps),
+        Ok(Evidence::Trace(trace)) => judge_trace(&policy, &trace),
         Err(stop) => Answer::Refused { number: stop.number_for_evidence(), line: stop.line },
     }
 }
@@ -849,8 +949,9 @@ fn refused_line(policy: &[u8], refusal: impl Fn(&Policy) -> Option<Stop>) -> Bad
     let (in_evidence, part) = match read_policy(policy) {
         Err(stop) => (false, stop.part),
         Ok(policy) => match refusal(&policy) {
-            Some(stop) => (true, stop.part),
-            None => (false, None),
+            // 21 has no bad line
+            Some(stop) if stop.fault != Fault::Limit => (true, stop.part),
+            _ => (false, None),
         },
     };
     match part {

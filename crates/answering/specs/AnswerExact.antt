@@ -192,17 +192,17 @@ module _ (policy evidence : List ℕ) where
   pub attacked-exact : (n u : ℕ) (m : Name) (g : ℕ) → answerOf policy evidence ≡ Answer.Attacked n u m g ↔ TraceTexts policy (λ s. Attacked s evidence n u m g)
   unfolding tellsTrace traceTold traceAnswer
   attacked-exact n u m g =
-      trace-exact refl refl (λ s a. read-kind s (a .reads .reads)) (λ s reads. running.attacked-exact s (read-sized policy reads) (read-sound policy reads .people) evidence n u m g)
+      trace-exact refl refl (λ s a. read-kind s (a .reads)) (λ s reads. running.attacked-exact s (read-sized policy reads) (read-sound policy reads .people) evidence n u m g)
 
   -- BROKEN with a number exactly when the evidence is read as a trace and the step with that number is the first that is none.
   pub broken-first : (n : ℕ) → answerOf policy evidence ≡ Answer.Broken n ↔ TraceTexts policy (λ s. Broken s evidence n)
   unfolding tellsTrace traceTold traceAnswer
-  broken-first n = trace-exact refl refl (λ s b. read-kind s (b .reads .reads)) (λ s reads. running.broken-first s (read-sized policy reads) evidence n)
+  broken-first n = trace-exact refl refl (λ s b. read-kind s (b .reads)) (λ s reads. running.broken-first s (read-sized policy reads) evidence n)
 
   -- SHORT with a number exactly when the evidence is read as a trace of that many steps, a run that does not end bad.
   pub short-exact : (n : ℕ) → answerOf policy evidence ≡ Answer.Short n ↔ TraceTexts policy (λ s. Short s evidence n)
   unfolding tellsTrace traceTold traceAnswer
-  short-exact n = trace-exact refl refl (λ s b. read-kind s (b .reads .reads)) (λ s reads. running.short-exact s (read-sized policy reads) evidence n)
+  short-exact n = trace-exact refl refl (λ s b. read-kind s (b .reads)) (λ s reads. running.short-exact s (read-sized policy reads) evidence n)
 
 -- No policy text has one evidence that earns SAFE and another that earns ATTACKED.
 pub never-both : (policy typing trace : List ℕ) {r a v g p n u : ℕ} {m : Name} {h : ℕ} → answerOf policy typing ≡ Answer.Safe r a v g p → answerOf policy trace ≡ Answer.Attacked n u m h → ⊥

@@ -1,7 +1,8 @@
--- When each answer of `check` is given, in the words of document 01, "Verdicts and refusal numbers".
-use Prim.Native.Nat.{ℕ}
+-- When each answer of `check` is given, in the words of document 01, "Verdicts and refusal numbers", and of document 02, CR 2.
+use Prim.Native.Nat.{ℕ, _≤_}
 use mathlib.Core.Bool.{true, false}
 use mathlib.Core.List.{List}
+use mathlib.Core.Logic.{_⊎_}
 use mathlib.Core.Path.{_≡_}
 use lib.ListN.{length}
 use Rattle.model.specs.Typing.{Accepted}
@@ -45,6 +46,11 @@ pub data Refused (policy evidence : List ℕ) : (number line : ℕ) → Type 0 w
   of-policy : {k n : ℕ} → PolicyRefusal policy k n → Refused policy evidence k n
   of-typing : {k n : ℕ} {s : Said} → readPolicy policy ≡ read s → isTyping evidence ≡ true → TypingRefusal (s .roles) evidence k n → Refused policy evidence k n
   of-trace : {k n : ℕ} {s : Said} → readPolicy policy ≡ read s → isTyping evidence ≡ false → TraceRefusal (length (s .assigns)) (length (s .revokes)) (s .users) evidence k n → Refused policy evidence k n
+
+-- The number of a text's refusal: from 10 to 16, or 21.
+pub record TextNumber (k : ℕ) : Type 0 where
+  pub least : 10 ≤ k
+  pub listed : (k ≤ 16) ⊎ (k ≡ 21)
 
 -- The policy text is read, and the policy that it says has a run from its holdings to a bad state.
 pub record BadRun (policy : List ℕ) : Type 0 where

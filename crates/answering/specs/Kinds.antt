@@ -106,7 +106,7 @@ typing-kind names text {t} reads =
 -- ---- traces
 
 -- the first line of a trace is its header
-trace-header : (assigns revokes : ℕ) (users : List Name) (line : List ℕ) → ((k : ℕ) → traces.judgeLine assigns revokes users untraced line ≡ bad k → ⊥) → line ≡ bytes "trace\t1"
+trace-header : (assigns revokes : ℕ) (users : List Name) (line : List ℕ) → ((k : ℕ) → traces.judgeLine assigns revokes (untraced users) line ≡ bad k → ⊥) → line ≡ bytes "trace\t1"
 unfolding traces.judgeLine traces.headerLine untraced
 trace-header assigns revokes users line good = go (sameBytes line (bytes "trace\t1")) refl
   where
@@ -118,6 +118,6 @@ trace-header assigns revokes users line good = go (sameBytes line (bytes "trace\
 pub trace-kind : (assigns revokes : ℕ) (users : List Name) (text : List ℕ) {t : Traced} → readTrace assigns revokes users text ≡ read t → isTyping text ≡ false
 unfolding readTrace sameBytes
 trace-kind assigns revokes users text {t} reads =
-    let judge = traces.judgeLine assigns revokes users in
-    let b = begins judge untraced text (read-exact judge 15 14 untraced text t .0 reads) in
+    let judge = traces.judgeLine assigns revokes in
+    let b = begins judge (untraced users) text (read-exact judge 15 14 (untraced users) text t .0 reads) in
     kind-first (b .line) (b .rest) (b .is) (b .unbroken) ∙ ap (λ (l : List ℕ). sameBytes l (bytes "typing\t1")) (trace-header assigns revokes users (b .line) (b .good))

@@ -2,8 +2,8 @@
 use Prim.Native.Nat.{ℕ, _≤_}
 use mathlib.Core.Bool.{Bool, true≢false}
 use mathlib.Core.List.{List}
-use mathlib.Core.Logic.{_↔_}
-use mathlib.Core.Path.{_≡_, ap, subst, _∙_}
+use mathlib.Core.Logic.{_↔_, inl, inr}
+use mathlib.Core.Path.{_≡_, refl, ap, subst, _∙_}
 use lib.Dec.{lit≤}
 use lib.ListN.{length}
 use Rattle.walking.specs.Texts.{Judged}
@@ -21,27 +21,32 @@ use Rattle.running.specs.Verdict.{traceVerdict}
 use Rattle.running.specs.TraceVerdictExact.{run-refused}
 use Rattle.answering.specs.declared.Answer.{Answer}
 use Rattle.answering.specs.Answers.{judgedAnswer, traceAnswer, answerOf}
-use Rattle.answering.specs.CheckRules.{Refused, of-policy, of-typing, of-trace}
+use Rattle.answering.specs.CheckRules.{Refused, of-policy, of-typing, of-trace, TextNumber}
 use Rattle.answering.specs.Outcomes.{Outcome, no-policy, no-typing, typed, traced, kind-answer, policy-refused, typing-refused, outcome}
 
 -- ---- the numbers of refusals
 
--- A policy's refusal has a number from 10 to 16, and so has a piece of evidence's.
-pub policy-number : {text : List ℕ} {k n : ℕ} → PolicyRefusal text k n → (10 ≤ k) × (k ≤ 16)
-policy-number (PolicyRefusal.too-long above) = (lit≤ tt, lit≤ tt)
-policy-number (PolicyRefusal.malformed at is) = (lit≤ tt, lit≤ tt)
-policy-number (PolicyRefusal.above-limit at is) = (lit≤ tt, lit≤ tt)
-policy-number (PolicyRefusal.undeclared at is) = (lit≤ tt, lit≤ tt)
-policy-number (PolicyRefusal.no-end fits above tail) = (lit≤ tt, lit≤ tt)
-policy-number (PolicyRefusal.after-end at is) = (lit≤ tt, lit≤ tt)
+-- a number up to 16
+low : {k : ℕ} → 10 ≤ k → k ≤ 16 → TextNumber k
+low least most = record { least = least; listed = inl most }
 
-pub evidence-number : {S : Type 0} {judge : S → List ℕ → Judged S} {formed known last : S → List ℕ → Bool} {start : S} {text : List ℕ} {k n : ℕ} → EvidenceRefusal judge formed known last start text k n
-    → (10 ≤ k) × (k ≤ 16)
-evidence-number (EvidenceRefusal.too-long above) = (lit≤ tt, lit≤ tt)
-evidence-number (EvidenceRefusal.malformed at is) = (lit≤ tt, lit≤ tt)
-evidence-number (EvidenceRefusal.misnamed at is) = (lit≤ tt, lit≤ tt)
-evidence-number (EvidenceRefusal.no-end fits above tail) = (lit≤ tt, lit≤ tt)
-evidence-number (EvidenceRefusal.after-end at is) = (lit≤ tt, lit≤ tt)
+-- A policy's refusal has such a number,
+pub policy-number : {text : List ℕ} {k n : ℕ} → PolicyRefusal text k n → TextNumber k
+policy-number (PolicyRefusal.too-long above) = low (lit≤ tt) (lit≤ tt)
+policy-number (PolicyRefusal.malformed at is) = low (lit≤ tt) (lit≤ tt)
+policy-number (PolicyRefusal.above-limit at is) = low (lit≤ tt) (lit≤ tt)
+policy-number (PolicyRefusal.undeclared at is) = low (lit≤ tt) (lit≤ tt)
+policy-number (PolicyRefusal.no-end fits above tail) = low (lit≤ tt) (lit≤ tt)
+policy-number (PolicyRefusal.after-end at is) = low (lit≤ tt) (lit≤ tt)
+
+-- and a piece of evidence's.
+pub evidence-number : {S : Type 0} {judge : S → List ℕ → Judged S} {formed known within last : S → List ℕ → Bool} {start : S} {text : List ℕ} {k n : ℕ} → EvidenceRefusal judge formed known within last start text k n → TextNumber k
+evidence-number (EvidenceRefusal.too-long above) = low (lit≤ tt) (lit≤ tt)
+evidence-number (EvidenceRefusal.malformed at is) = low (lit≤ tt) (lit≤ tt)
+evidence-number (EvidenceRefusal.misnamed at is) = low (lit≤ tt) (lit≤ tt)
+evidence-number (EvidenceRefusal.above-limit at is) = record { least = lit≤ tt; listed = inr refl }
+evidence-number (EvidenceRefusal.no-end fits above tail) = low (lit≤ tt) (lit≤ tt)
+evidence-number (EvidenceRefusal.after-end at is) = low (lit≤ tt) (lit≤ tt)
 
 -- ---- when the answer is a refusal
 
@@ -84,11 +89,11 @@ module _ (policy evidence : List ℕ) where
   pub refused-exact : (k n : ℕ) → answerOf policy evidence ≡ Answer.Refused k n ↔ Refused policy evidence k n
   refused-exact k n = (refused-told (outcome policy evidence), refused-back)
 
-  -- A refusal has a number from 10 to 16, and so is no verdict.
-  pub refused-number : {k n : ℕ} → answerOf policy evidence ≡ Answer.Refused k n → (10 ≤ k) × (k ≤ 16)
+  -- A refusal has a number from 10 to 16, or 21, and so is no verdict.
+  pub refused-number : {k n : ℕ} → answerOf policy evidence ≡ Answer.Refused k n → TextNumber k
   refused-number {k} {n} is = go (refused-exact k n .0 is)
     where
-      go : {k n : ℕ} → Refused policy evidence k n → (10 ≤ k) × (k ≤ 16)
+      go : {k n : ℕ} → Refused policy evidence k n → TextNumber k
       go (of-policy refusal) = policy-number refusal
       go (of-typing reads kind refusal) = evidence-number refusal
       go (of-trace reads kind refusal) = evidence-number refusal

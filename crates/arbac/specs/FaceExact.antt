@@ -37,7 +37,7 @@ use Rattle.arbac.specs.FaceNumbers.{check-numbered, sum-numbered, merge-
 -- ---- the number that is answered
 
 -- a number that is told in an array, of which it is known when it is 0
-told-so : {number : ℕ} {Success : Type 0} (width : ℕ) (array : List ℕ) → number ≤ 20 → number ≡ 0 ↔ Success → Answered width array Success (toldNumber width number array)
+told-so : {number : ℕ} {Success : Type 0} (width : ℕ) (array : List ℕ) → number ≤ 21 → number ≡ 0 ↔ Success → Answered width array Success (toldNumber width number array)
 unfolding toldNumber roomFor
 told-so {number} {Success} width array listed zero = go (leb width (length array)) refl
   where
@@ -53,7 +53,7 @@ told-so {number} {Success} width array listed zero = go (leb width (length array
         record { none-told = (λ none. short, λ less. refl); zero-told = (λ is. absurd (omega (arith, is)), λ told. absurd (omega (arith, short, told .0))) }
 
 -- the same in lent memory
-lent-so : {number : ℕ} {Success : Type 0} (needed width : ℕ) (memory array : List ℕ) → number ≤ 20 → number ≡ 0 ↔ Success → AnsweredLent needed width memory array Success (lentNumber needed width number memory array)
+lent-so : {number : ℕ} {Success : Type 0} (needed width : ℕ) (memory array : List ℕ) → number ≤ 21 → number ≡ 0 ↔ Success → AnsweredLent needed width memory array Success (lentNumber needed width number memory array)
 unfolding lentNumber toldNumber roomFor inMemory
 lent-so {number} {Success} needed width memory array listed zero = go (leb width (length array)) (ltb (length memory) needed) refl refl
   where

@@ -16,6 +16,7 @@ use Rattle.summing.specs.Outcome.{Outcome, answerIn, bufferAfter, Meets}
 use Rattle.summing.specs.Meeting.{meets-as}
 use Rattle.answering.specs.declared.Answer.{Answer}
 use Rattle.answering.specs.Answers.{answerOf}
+use Rattle.running.specs.Named.{names-most}
 use Rattle.answering.specs.AnswerExact.{attacked-exact}
 use Rattle.telling.specs.Numbers.{Told, UserListed}
 use Rattle.telling.specs.NumberLaws.{known-told}
@@ -27,7 +28,7 @@ pub user-listed : (policy evidence : List ℕ) {answer : Answer} → answer ≡ 
 user-listed policy evidence is = record {
   below = λ steps user name goal attacked.
       let texts = attacked-exact policy evidence steps user name goal .0 (sym is ∙ attacked) in
-      omega (arith, at-inside (texts .holds .named), read-sound policy (texts .reads) .users .most);
+      omega (arith, at-inside (texts .holds .named), names-most (texts .said) evidence (texts .holds .reads) (read-sound policy (texts .reads) .users .most));
 }
 
 -- ---- told in a lent array

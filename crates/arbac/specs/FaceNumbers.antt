@@ -2,6 +2,7 @@
 use Prim.Native.Nat.{ℕ, _≤_}
 use mathlib.Core.Bool.{Bool, true, false, cond}
 use mathlib.Core.List.{List}
+use mathlib.Core.Logic.{⊎-elim}
 use mathlib.Core.Path.{_≡_, refl}
 use lib.Dec.{leb, lit≤}
 use lib.ListN.{length}
@@ -28,6 +29,7 @@ use Rattle.scribing.specs.declared.SpellAnswer.{SpellAnswer}
 use Rattle.scribing.specs.Spell as spell
 use Rattle.answering.specs.declared.Answer.{Answer}
 use Rattle.answering.specs.Answers.{numberOf, answerOf}
+use Rattle.answering.specs.CheckRules.{TextNumber}
 use Rattle.answering.specs.Refusals.{policy-number, evidence-number, refused-number}
 use Rattle.arbac.specs.Face.{IsSafe, safe, IsSummed, summed, IsMerged, merged, IsSpelled, spelled}
 
@@ -35,20 +37,20 @@ use Rattle.arbac.specs.Face.{IsSafe, safe, IsSummed, summed, IsMerged, m
 
 -- An answer's number is one of the documents', and 0 only where it is a success.
 pub record Numbered {A : Type 0} (numberOf : A → ℕ) (Success : A → Type 0) (answer : A) : Type 0 where
-  pub listed : numberOf answer ≤ 20
+  pub listed : numberOf answer ≤ 21
   pub zero-only : numberOf answer ≡ 0 → Success answer
 
 -- an answer with another number than 0
-other : {A : Type 0} {numberOf : A → ℕ} {Success : A → Type 0} {answer : A} → 1 ≤ numberOf answer → numberOf answer ≤ 20 → Numbered numberOf Success answer
+other : {A : Type 0} {numberOf : A → ℕ} {Success : A → Type 0} {answer : A} → 1 ≤ numberOf answer → numberOf answer ≤ 21 → Numbered numberOf Success answer
 other least most = record { listed = most; zero-only = λ none. absurd (omega (arith, least, none)) }
 
 -- a refusal
-refusal : {A : Type 0} (numberOf : A → ℕ) {Success : A → Type 0} (answer : A) → (10 ≤ numberOf answer) × (numberOf answer ≤ 20) → Numbered numberOf Success answer
+refusal : {A : Type 0} (numberOf : A → ℕ) {Success : A → Type 0} (answer : A) → (10 ≤ numberOf answer) × (numberOf answer ≤ 21) → Numbered numberOf Success answer
 refusal numberOf answer between = other (omega arith) (between .1)
 
 -- a refusal of a text
-text-number : {k : ℕ} → (10 ≤ k) × (k ≤ 16) → (10 ≤ k) × (k ≤ 20)
-text-number between = (between .0, omega arith)
+text-number : {k : ℕ} → TextNumber k → (10 ≤ k) × (k ≤ 21)
+text-number number = (number .least, ⊎-elim (λ low. omega (arith, low)) (λ last. omega (arith, last)) (number .listed))
 
 -- ---- of `check`
 
@@ -66,10 +68,10 @@ check-numbered policy evidence = go (answerOf policy evidence) refl
 -- ---- of sum, spell and merge
 
 -- the number of a policy or a typing that is not read
-policy-refused : (text : List ℕ) {k n : ℕ} → readPolicy text ≡ refused k n → (10 ≤ k) × (k ≤ 20)
+policy-refused : (text : List ℕ) {k n : ℕ} → readPolicy text ≡ refused k n → (10 ≤ k) × (k ≤ 21)
 policy-refused text {k} {n} is = text-number (policy-number (policy-refusal-exact text k n .0 is))
 
-typing-refused : (names : List Name) (text : List ℕ) {k n : ℕ} → readTyping names text ≡ refused k n → (10 ≤ k) × (k ≤ 20)
+typing-refused : (names : List Name) (text : List ℕ) {k n : ℕ} → readTyping names text ≡ refused k n → (10 ≤ k) × (k ≤ 21)
 typing-refused names text {k} {n} is = text-number (evidence-number (typing-refusal-exact names text k n .0 is))
 
 -- what holds of a refusal of a text and of what follows once it is read
@@ -112,7 +114,7 @@ abbrev Fine : MergeAnswer → Type 0
 Fine = Numbered merge.numberOf IsMerged
 
 -- what holds of a refusal and of what follows holds of either
-when-either : (b : Bool) (next : Outcome MergeAnswer) (number : ℕ) → (10 ≤ number) × (number ≤ 20) → Fine (answerIn next) → Fine (answerIn (cond b next (leaves (MergeAnswer.Refused 0 number 0))))
+when-either : (b : Bool) (next : Outcome MergeAnswer) (number : ℕ) → (10 ≤ number) × (number ≤ 21) → Fine (answerIn next) → Fine (answerIn (cond b next (leaves (MergeAnswer.Refused 0 number 0))))
 unfolding answerIn
 when-either true next number r fine = fine
 when-either false next number r fine = refusal merge.numberOf (MergeAnswer.Refused 0 number 0) r

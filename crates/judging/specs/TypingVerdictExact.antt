@@ -30,8 +30,8 @@ use Rattle.judging.specs.Order.{both-accepted, one-fails, part-accepted,
 holdings-each : (Γ : Typing) (σ : State) → HoldingsPass Γ σ ↔ ((p : Person) → Listed p σ → WellTyped Γ p)
 unfolding person
 holdings-each Γ σ = (
-  λ pass p m. let (place, at) = listed-at m in subst (WellTyped Γ) (at-stands nobody at) (pass .user (record { listed = at-inside at })),
-  λ each. record { user = λ {user} here. each (person σ user) (at-listed (stands-at nobody σ user (here .listed))) },
+  λ pass p m. let (place, at) = listed-at m in subst (WellTyped Γ) (at-stands nobody at) (pass .user (at-inside at)),
+  λ each. record { user = λ {user} here. each (person σ user) (at-listed (stands-at nobody σ user here)) },
 )
 
 module _ (s : Said) {t : Table} (sized : SizedPolicy (policyOf s)) (laid : Laid t (length (s .roles))) where

@@ -1,7 +1,8 @@
 -- A ledger: a policy laid out in words, with a part for its role names, user names, people, assign rules, revoke rules and goals.
-use Prim.Native.Nat.{ℕ, _+_}
+use Prim.Native.Nat.{ℕ, _+_, _*_}
+use mathlib.Core.Bool.{Bool, _||_}
 use mathlib.Core.List.{List, [], _∷_}
-use lib.Dec.{eqb}
+use lib.Dec.{ltb, eqb}
 use mir.Val.{boolByte}
 use lib.ListN.{getD}
 use Rattle.roles.specs.declared.RoleSet.{RoleSet}
@@ -35,13 +36,19 @@ roleNames = namesFrom 0
 abbrev pub userNames : Part Name
 userNames = namesFrom 512
 
--- A person is three words: 1 for the clearance H and 0 for L, and the roles. There is room for 64.
+-- A person is three words: 2 for L and 3 for H, or 0 and 1 where the person is gone; and the roles. There is room for 64.
+abbrev pub standing : (present clearance : Bool) → ℕ
+standing present clearance = 2 * boolByte present + boolByte clearance
+
+abbrev pub isHigh : ℕ → Bool
+isHigh word = eqb word 1 || eqb word 3
+
 abbrev pub people : Part Person
 people = record {
   from = 768;
   width = 3;
-  says = λ words at. record { clearance = eqb (getD words at 0) 1; roles = setSaid words (at + 1) (at + 2) };
-  row = λ p. boolByte (p .clearance) ∷ p .roles .low ∷ p .roles .high ∷ [];
+  says = λ words at. record { clearance = isHigh (getD words at 0); present = ltb 1 (getD words at 0); roles = setSaid words (at + 1) (at + 2) };
+  row = λ p. standing (p .present) (p .clearance) ∷ p .roles .low ∷ p .roles .high ∷ [];
 }
 
 -- An assign rule is six words: the administrative role, the positive set, the negative set and the target. There is room for 256.

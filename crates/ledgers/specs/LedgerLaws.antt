@@ -3,7 +3,7 @@ use Prim.Native.Nat.{ℕ, zero, suc, _+_, _-_, _*_, _≤_, _<_}
 use mathlib.Core.Bool.{Bool, true, false}
 use mathlib.Core.List.{List, _∷_}
 use mathlib.Core.Path.{_≡_, refl, ap, ap₂, _∙_}
-use lib.Dec.{eqb}
+use lib.Dec.{ltb, lit≤}
 use lib.ListN.{length, getD, take, drop, length-drop}
 use lib.Seq.{sets, getD-drop, drop-drop, take-all}
 use mir.Val.{boolByte}
@@ -12,7 +12,7 @@ use native.Mathlib.Omega.{arith}
 use Rattle.tables.specs.Names.{rowOf, rows}
 use Rattle.ledgers.specs.Parts.{rowsFrom, rowsIn}
 use Rattle.ledgers.specs.PartLaws.{Faithful, sets-at}
-use Rattle.ledgers.specs.Ledger.{nameRow, namesFrom, roleNames, userNames, people, assignRules, revokeRules, goalSets}
+use Rattle.ledgers.specs.Ledger.{nameRow, namesFrom, roleNames, userNames, standing, isHigh, people, assignRules, revokeRules, goalSets}
 
 -- the words of a row that was stored
 module _ (words : List ℕ) (at : ℕ) (row : List ℕ) (fits : at + length row ≤ length words) where
@@ -57,16 +57,29 @@ users-faithful = names-faithful 512
 pub users-lent : (words : List ℕ) (count : ℕ) → rows count (take (length words - 512) (drop 512 words)) ≡ rowsIn userNames words count
 users-lent words count = ap (rows count) (take-all (length words - 512) (drop 512 words) (omega (arith, length-drop 512 words))) ∙ users-rows words count
 
--- a clearance is told by its word
-cleared : (b : Bool) → eqb (boolByte b) 1 ≡ b
-cleared true = refl
-cleared false = refl
+-- clearance and presence are told by their word
+cleared : (present clearance : Bool) → isHigh (standing present clearance) ≡ clearance
+cleared true true = refl
+cleared true false = refl
+cleared false true = refl
+cleared false false = refl
+
+here : (present clearance : Bool) → ltb 1 (standing present clearance) ≡ present
+here true true = refl
+here true false = refl
+here false true = refl
+here false false = refl
+
+-- each flag is small
+pub flag-small : (flag : Bool) → boolByte flag ≤ 1
+flag-small true = lit≤ tt
+flag-small false = lit≤ tt
 
 pub people-faithful : Faithful people
 people-faithful = record {
   wide = λ p. refl;
-  alone = λ one two at same. λ i. record { clearance = eqb (same at (omega arith) (omega arith) i) 1; roles = record { low = same (at + 1) (omega arith) (omega arith) i; high = same (at + 2) (omega arith) (omega arith) i } };
-  back = λ words at p fits. λ i. record { clearance = (ap (λ (w : ℕ). eqb w 1) (first words at (people .row p) fits (omega arith)) ∙ cleared (p .clearance)) i; roles = record { low = word words at (people .row p) fits 1 (omega arith) i; high = word words at (people .row p) fits 2 (omega arith) i } };
+  alone = λ one two at same. λ i. record { clearance = isHigh (same at (omega arith) (omega arith) i); present = ltb 1 (same at (omega arith) (omega arith) i); roles = record { low = same (at + 1) (omega arith) (omega arith) i; high = same (at + 2) (omega arith) (omega arith) i } };
+  back = λ words at p fits. λ i. record { clearance = (ap isHigh (first words at (people .row p) fits (omega arith)) ∙ cleared (p .present) (p .clearance)) i; present = (ap (ltb 1) (first words at (people .row p) fits (omega arith)) ∙ here (p .present) (p .clearance)) i; roles = record { low = word words at (people .row p) fits 1 (omega arith) i; high = word words at (people .row p) fits 2 (omega arith) i } };
 }
 
 pub assigns-faithful : Faithful assignRules

@@ -36,8 +36,10 @@ pub fn person(ledger: &[u64], place: usize) -> Person
     ensures { λ r. ⌜ r ≡ rowAt people (now (ledger .entry)) place ⌝ }
 {
     let at = PEOPLE + 3 * place;
+    let word = ledger[at];
     Person {
-        clearance: ledger[at] == 1,
+        clearance: (word == 1) | (word == 3),
+        present: 1 < word,
         roles: RoleSet {
             low: ledger[at + 1],
             high: ledger[at + 2],
@@ -135,11 +137,8 @@ pub fn store_person(ledger: &mut [u64], place: usize, person: Person)
     ensures { λ _. ⌜ now (ledger .exit) ≡ stored people (now (ledger .entry)) place person ⌝ }
 {
     let held = person.roles;
-    store(
-        ledger,
-        PEOPLE + 3 * place,
-        &[person.clearance as u64, held.low, held.high],
-    );
+    let word = 2 * (person.present as u64) + person.clearance as u64;
+    store(ledger, PEOPLE + 3 * place, &[word, held.low, held.high]);
 }
 
 // Stores the assign rule at a place.

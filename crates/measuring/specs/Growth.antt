@@ -1,11 +1,11 @@
 -- A line that is read makes the spelling longer by the line that is written of it.
-use Prim.Native.Nat.{ℕ, zero, suc, _+_, _≤_, _<_}
+use Prim.Native.Nat.{ℕ, suc, _+_, _≤_, _<_}
 use mathlib.Core.Bool.{Bool, true, false, cond}
 use mathlib.Core.List.{List, [], _∷_, _++_}
 use mathlib.Core.Path.{_≡_, refl, sym, ap, ap₂, _∙_}
 use borrow.Author.Tests.{eqb-true, eqb-false}
 use lib.Dec.{eqb}
-use lib.ListN.{length, getD, set, length-append, length-set, List·getD-append}
+use lib.ListN.{length, getD, set, length-append, List·getD-append}
 use lib.Seq.{getD-append-seam, getD-set-same, getD-set-other}
 use native.Mathlib.Numerals.{add-one}
 use native.Mathlib.Omega.{arith}
@@ -15,19 +15,19 @@ use Rattle.roles.specs.MemberLaws.{has-empty}
 use Rattle.model.specs.declared.Assign.{Assign}
 use Rattle.model.specs.declared.Revoke.{Revoke}
 use Rattle.model.specs.declared.Person.{Person}
-use Rattle.model.specs.Policy.{noAssign, noRevoke, State, nobody, person, withRole, granted}
+use Rattle.model.specs.Policy.{noAssign, noRevoke, State, newcomer, nobody, person, withRole, granted, joined}
 use Rattle.tables.specs.declared.Name.{Name}
 use Rattle.tables.specs.Names.{packed, nameAt}
 use Rattle.lines.specs.declared.Entry.{Entry}
-use Rattle.reading.specs.Policy.{Said, kindOf, noted, added}
+use Rattle.reading.specs.Policy.{Said, noted, added}
 use Rattle.text.specs.Forms.{bytes}
 use Rattle.writing.specs.Written.{spelled}
 use Rattle.showing.specs.Fields.{field}
 use Rattle.drafting.specs.declared.Block.{Block}
 use Rattle.inscribing.specs.LineText.{lineText, linesText}
 use Rattle.drafting.specs.PolicyText.{heldFrom, blockSize, element}
-use Rattle.measuring.specs.Sums.{sumFrom, sum-last, sum-same, sum-none, sum-more, weight, weight-none, weight-with}
-use Rattle.measuring.specs.Blocks.{lineSize, linesSize, lines-one, held-size, elementSize, blockLength, blocksLength}
+use Rattle.measuring.specs.Sums.{sumFrom, sum-last, sum-same, sum-none, sum-more, weight, weight-with}
+use Rattle.measuring.specs.Blocks.{lineSize, linesSize, lines-one, held-size, elementSize, blocksLength}
 
 -- ---- one element more
 
@@ -118,22 +118,22 @@ role-grows s name no-users no-assigns no-revokes no-goals =
 
 -- A user, who holds nothing yet.
 pub user-grows : (s : Said) (name : Name) (clearance : Bool) → length (s .holdings) ≡ length (s .users) → blocksLength (added s (Entry.User name clearance)) ≡ blocksLength s + lineSize (s .roles) (s .users) (Entry.User name clearance)
-unfolding added noted blockSize element nameAt person
+unfolding added noted blockSize element nameAt person newcomer joined
 user-grows s name clearance people =
     let t = added s (Entry.User name clearance) in
-    let newcomer : Person = record { clearance = clearance; roles = emptySet } in
+    let new = newcomer clearance in
     let line : Name → Person → ℕ = λ n p. linesSize (s .roles) (s .users ++ (name ∷ [])) (Entry.User n (p .clearance) ∷ []) in
     omega (
       arith,
       same-block (elementSize s Block.Roles) (elementSize t Block.Roles) {count = length (s .roles)} refl (λ k below. role-alone (s .roles) (s .roles) (s .users ++ (name ∷ [])) (s .users) (getD (s .roles) k (packed []))),
       longer-block (elementSize s Block.Users) (elementSize t Block.Users) (one-longer (s .users) name)
-          (λ k below. ap₂ line (old-at (s .users) name (packed []) k below) (old-at (s .holdings) newcomer nobody k (omega arith)) ∙ user-alone (s .roles) (s .users ++ (name ∷ [])) (s .users) (getD (s .users) k (packed [])) (getD (s .holdings) k nobody .clearance))
-          (ap₂ line (new-at (s .users) name (packed [])) (ap (λ (k : ℕ). getD (s .holdings ++ (newcomer ∷ [])) k nobody) (sym people) ∙ new-at (s .holdings) newcomer nobody) ∙ user-alone (s .roles) (s .users ++ (name ∷ [])) (s .users) name clearance ∙ lines-one (s .roles) (s .users) (Entry.User name clearance)),
+          (λ k below. ap₂ line (old-at (s .users) name (packed []) k below) (old-at (s .holdings) new nobody k (omega arith)) ∙ user-alone (s .roles) (s .users ++ (name ∷ [])) (s .users) (getD (s .users) k (packed [])) (getD (s .holdings) k nobody .clearance))
+          (ap₂ line (new-at (s .users) name (packed [])) (ap (λ (k : ℕ). getD (s .holdings ++ (new ∷ [])) k nobody) (sym people) ∙ new-at (s .holdings) new nobody) ∙ user-alone (s .roles) (s .users ++ (name ∷ [])) (s .users) name clearance ∙ lines-one (s .roles) (s .users) (Entry.User name clearance)),
       longer-block (elementSize s Block.Has) (elementSize t Block.Has) {more = 0} (one-longer (s .users) name)
           (λ k below.
-          ap (λ (p : Person). linesSize (s .roles) (s .users ++ (name ∷ [])) (heldFrom k 0 (p .roles) (s .roles))) (old-at (s .holdings) newcomer nobody k (omega arith))
+          ap (λ (p : Person). linesSize (s .roles) (s .users ++ (name ∷ [])) (heldFrom k 0 (p .roles) (s .roles))) (old-at (s .holdings) new nobody k (omega arith))
           ∙ held-alone (s .roles) (s .users ++ (name ∷ [])) (s .users) k (getD (s .holdings) k nobody .roles) (old-at (s .users) name (packed []) k below))
-          (ap (λ (p : Person). linesSize (s .roles) (s .users ++ (name ∷ [])) (heldFrom (length (s .users)) 0 (p .roles) (s .roles))) (ap (λ (k : ℕ). getD (s .holdings ++ (newcomer ∷ [])) k nobody) (sym people) ∙ new-at (s .holdings) newcomer nobody)
+          (ap (λ (p : Person). linesSize (s .roles) (s .users ++ (name ∷ [])) (heldFrom (length (s .users)) 0 (p .roles) (s .roles))) (ap (λ (k : ℕ). getD (s .holdings ++ (new ∷ [])) k nobody) (sym people) ∙ new-at (s .holdings) new nobody)
           ∙ held-none (s .roles) (s .users ++ (name ∷ [])) (length (s .users))),
       same-block (elementSize s Block.Assigns) (elementSize t Block.Assigns) {count = length (s .assigns)} refl (λ k below. assign-alone (s .roles) (s .users ++ (name ∷ [])) (s .users) (getD (s .assigns) k noAssign)),
       same-block (elementSize s Block.Revokes) (elementSize t Block.Revokes) {count = length (s .revokes)} refl (λ k below. revoke-alone (s .roles) (s .users ++ (name ∷ [])) (s .users) (getD (s .revokes) k noRevoke)),

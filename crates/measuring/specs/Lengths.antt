@@ -1,8 +1,8 @@
 -- A policy's spelling is as long as every text of that policy.
-use Prim.Native.Nat.{ℕ, suc, _+_, _≤_, _<_}
-use mathlib.Core.Bool.{Bool, true, false, not, cond, _&&_, and-eq-true-iff, false≢true}
-use mathlib.Core.List.{List, [], _∷_, _++_}
-use mathlib.Core.Path.{_≡_, refl, sym, ap, subst, _∙_}
+use Prim.Native.Nat.{ℕ, _+_, _≤_}
+use mathlib.Core.Bool.{true, false, cond, and-eq-true-iff, false≢true}
+use mathlib.Core.List.{List, [], _∷_}
+use mathlib.Core.Path.{_≡_, refl, ap, subst}
 use borrow.Author.Tests.{ltb-true, not-true, ne-eqb, eq-eqb, eqb-true}
 use lib.Dec.{eqb}
 use lib.ListN.{length, length-append}
@@ -15,11 +15,9 @@ use Rattle.fields.specs.Fields.{placed, isDeclared}
 use Rattle.lines.specs.declared.Entry.{Entry}
 use Rattle.lines.specs.Lines.{asked, lineOf, headerKind}
 use Rattle.lines.specs.Lines as kind
-use Rattle.lines.specs.LineLaws.{GoodLine}
-use Rattle.walking.specs.Texts.{goes, read}
+use Rattle.walking.specs.Texts.{read}
 use Rattle.walking.specs.Meaning.{Above, first, next}
 use Rattle.reading.specs.Policy.{Said, nothing, countsOf, kindOf, noted, added, isNew, lineAsked, judgeLine, readPolicy}
-use Rattle.reading.specs.PolicyRefusals.{fields}
 use Rattle.reading.specs.PolicyExact.{end-bytes, good-exact, policy-read-exact}
 use Rattle.reading.specs.Sound.{Sound, line-sound, nothing-sound}
 use Rattle.reading.specs.Answer.{line-leads}
@@ -30,7 +28,7 @@ use Rattle.measuring.specs.Sums.{sumFrom}
 use Rattle.measuring.specs.Lines.{line-length}
 use Rattle.measuring.specs.Blocks.{lineSize, blocksLength, text-size}
 use Rattle.measuring.specs.Growth.{role-grows, user-grows, has-grows, assign-grows, revoke-grows, goal-grows}
-use Rattle.measuring.specs.Phases.{Phased, phased-nothing, phased-added, Stands, past, good-stands, not-before, past-header}
+use Rattle.measuring.specs.Phases.{Phased, phased-nothing, phased-added, Stands, good-stands, not-before, past-header}
 
 -- what is written of the lines so far: the header, once it is read, and the blocks
 unfoldable sizeOf : Said → ℕ

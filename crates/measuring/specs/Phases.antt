@@ -1,6 +1,6 @@
 -- The blocks of a policy come one after another: while lines of one kind are read, the blocks of later kinds are empty.
-use Prim.Native.Nat.{ℕ, _≤_, _<_}
-use mathlib.Core.Bool.{Bool, true, false, not, _&&_, and-eq-true-iff, false≢true}
+use Prim.Native.Nat.{ℕ, _≤_}
+use mathlib.Core.Bool.{true, false, not, _&&_, and-eq-true-iff, false≢true}
 use mathlib.Core.List.{List}
 use mathlib.Core.Path.{_≡_, refl, subst}
 use borrow.Author.Tests.{leb-true, eqb-true}
@@ -13,7 +13,7 @@ use Rattle.tables.specs.declared.Name.{Name}
 use Rattle.fields.specs.Fields.{isDeclared}
 use Rattle.lines.specs.declared.Counts.{Counts}
 use Rattle.lines.specs.declared.Entry.{Entry}
-use Rattle.lines.specs.Lines.{asked, inOrder, headerKind, roleKind, userKind, hasKind, assignKind, revokeKind, goalKind, endKind}
+use Rattle.lines.specs.Lines.{asked, inOrder, headerKind, roleKind, userKind, hasKind, assignKind, revokeKind, goalKind}
 use Rattle.lines.specs.Lines as kind
 use Rattle.lines.specs.LineLaws.{GoodLine}
 use Rattle.reading.specs.Policy.{Said, nothing, countsOf, kindOf, noted, added}

@@ -17,9 +17,9 @@ sameLists same (x ∷ xs) (y ∷ ys) = same x y && sameLists same xs ys
 unfoldable pub sameLabel : Bool → Bool → Bool
 sameLabel l m = cond l m (not m)
 
--- a clearance, and the roles held as a set
+-- a clearance, present or gone, and the roles held as a set
 unfoldable pub samePerson : Person → Person → Bool
-samePerson p q = sameLabel (p .clearance) (q .clearance) && sameSet (p .roles) (q .roles)
+samePerson p q = sameLabel (p .clearance) (q .clearance) && sameLabel (p .present) (q .present) && sameSet (p .roles) (q .roles)
 
 unfoldable pub sameDirectory : Said → Said → Bool
 sameDirectory s t = sameLists sameName (s .roles) (t .roles) && sameLists sameName (s .users) (t .users) && sameLists samePerson (s .holdings) (t .holdings)

@@ -63,14 +63,15 @@ label-exact true false = (λ e. absurd (false≢true e), λ e. absurd (true≢fa
 label-exact false true = (λ e. absurd (false≢true e), λ e. absurd (false≢true e))
 label-exact false false = (λ _. refl, λ _. refl)
 
--- and so are a clearance and a set together
+-- and so are a clearance, a presence and a set together
 person-exact : (p q : Person) → samePerson p q ≡ true ↔ p ≡ q
 unfolding samePerson
 person-exact p q = (
   λ e.
-      let both = and-eq-true-iff (sameLabel (p .clearance) (q .clearance)) (sameSet (p .roles) (q .roles)) .0 e in
-      λ i. record { clearance = label-exact (p .clearance) (q .clearance) .0 (both .0) i; roles = same-equal (p .roles) (q .roles) (both .1) i },
-  λ e. subst (λ (x : Person). samePerson p x ≡ true) e (ap₂ _&&_ (label-exact (p .clearance) (p .clearance) .1 refl) (equal-same (p .roles))),
+      let both = and-eq-true-iff (sameLabel (p .clearance) (q .clearance) && sameLabel (p .present) (q .present)) (sameSet (p .roles) (q .roles)) .0 e in
+      let flags = and-eq-true-iff (sameLabel (p .clearance) (q .clearance)) (sameLabel (p .present) (q .present)) .0 (both .0) in
+      λ i. record { clearance = label-exact (p .clearance) (q .clearance) .0 (flags .0) i; present = label-exact (p .present) (q .present) .0 (flags .1) i; roles = same-equal (p .roles) (q .roles) (both .1) i },
+  λ e. subst (λ (x : Person). samePerson p x ≡ true) e (ap₂ _&&_ (ap₂ _&&_ (label-exact (p .clearance) (p .clearance) .1 refl) (label-exact (p .present) (p .present) .1 refl)) (equal-same (p .roles))),
 )
 
 -- ---- the directories of two policy texts

@@ -27,12 +27,12 @@ fn same_words(one: &[u64], two: &[u64], count: usize) -> bool
     true
 }
 
-// Whether two people have the same clearance and hold the same roles.
+// Whether two people have the same clearance, are present alike and hold the same roles.
 fn same_person(one: Person, two: Person) -> bool
     ensures { λ r. ⌜ r ≡ samePerson one two ⌝ }
 {
     let held = one.roles;
-    (one.clearance == two.clearance) & held.same(two.roles)
+    (one.clearance == two.clearance) & (one.present == two.present) & held.same(two.roles)
 }
 
 // Whether so many first people of two ledgers are the same, one by one.

@@ -5,6 +5,7 @@ pub mod Typing
 pub mod Meaning
 pub mod Closure
 pub mod States
+pub mod Gone
 pub mod Safety
 pub mod Sum
 pub mod Witness

@@ -1,7 +1,7 @@
--- Policies, states, steps, runs and bad states, in the order of document 01, "The model".
+-- Policies, states, steps, joining and leaving, runs and bad states, in the order of document 01, "The model", and of document 02, CR 2.
 use Prim.Native.Nat.{ℕ, _<_}
 use mathlib.Core.Bool.{Bool, true, false}
-use mathlib.Core.List.{List, _++_, List·Memᴰ as Listed}
+use mathlib.Core.List.{List, [], _∷_, _++_, List·Memᴰ as Listed}
 use mathlib.Core.Path.{_≡_}
 use lib.ListN.{length, getD, set}
 use Rattle.roles.specs.declared.RoleSet.{RoleSet}
@@ -51,20 +51,26 @@ noAssign = assigning 0 emptySet emptySet 0
 unfoldable pub noRevoke : Revoke
 noRevoke = record { admin = 0; target = 0 }
 
--- The users in their order, each with clearance and roles. A user is a place in the list.
+-- All who were ever here, in order of appearance: the listed users, then who joined. Each has a clearance and roles, and is present or
+-- gone. A user is a place in the list.
 abbrev pub State : Type 0
 State = List Person
 
--- What stands for a place past the end: nobody, who holds nothing.
+-- Who has just come: present, of either clearance, with no roles.
+unfoldable pub newcomer : Label → Person
+newcomer clearance = record { clearance = clearance; present = true; roles = emptySet }
+
+-- What stands for a place past the end: nobody, who is not present and holds nothing.
 unfoldable pub nobody : Person
-nobody = record { clearance = L; roles = emptySet }
+nobody = record { clearance = L; present = false; roles = emptySet }
 
 unfoldable pub person : State → ℕ → Person
 person σ user = getD σ user nobody
 
--- The user is one of the listed.
+-- The user is in the list, and has not left.
 pub record Present (σ : State) (user : ℕ) : Type 0 where
   pub listed : user < length σ
+  pub here : person σ user .present ≡ true
 
 -- The user holds the role; holds all of the set; holds none of the set.
 pub record Holds (σ : State) (user role : ℕ) : Type 0 where
@@ -93,7 +99,7 @@ pub record CanRevoke (σ : State) (actor : ℕ) (rule : Revoke) (user : ℕ) : T
 
 -- The person with other roles, and all else as it was; with one role more; with one role less.
 abbrev pub withRoles : Person → RoleSet → Person
-withRoles p roles = record { clearance = p .clearance; roles = roles }
+withRoles p roles = record { clearance = p .clearance; present = p .present; roles = roles }
 
 unfoldable pub withRole : Person → ℕ → Person
 withRole p role = withRoles p (withOf (p .roles) role)
@@ -114,16 +120,34 @@ pub data Step (P : Policy) (σ : State) : State → Type 0 where
   assign : {rule : Assign} {actor user : ℕ} → Listed rule (P .assigns) → CanAssign σ actor rule user → (Holds σ user (rule .target) → ⊥) → Step P σ (granted σ user (rule .target))
   revoke : {rule : Revoke} {actor user : ℕ} → Listed rule (P .revokes) → CanRevoke σ actor rule user → Holds σ user (rule .target) → Step P σ (revoked σ user (rule .target))
 
+-- The person who has left: gone, with no roles.
+unfoldable pub leaver : Person → Person
+leaver p = record { clearance = p .clearance; present = false; roles = emptySet }
+
+-- Somebody has joined, at a new place after all others; a user has left.
+unfoldable pub joined : State → Label → State
+joined σ clearance = σ ++ (newcomer clearance ∷ [])
+
+unfoldable pub departed : State → ℕ → State
+departed σ user = set σ user (leaver (person σ user))
+
+-- One move in a directory with a policy: a step of the policy; somebody of either clearance joins with no roles; or a present user leaves
+-- with all roles. Nobody comes back: no move makes anybody present who is in the list (`gone-stays`).
+pub data Move (P : Policy) (σ : State) : State → Type 0 where
+  step : {τ : State} → Step P σ τ → Move P σ τ
+  join : (clearance : Label) → Move P σ (joined σ clearance)
+  leave : {user : ℕ} → Present σ user → Move P σ (departed σ user)
+
 -- Any finite sequence of steps of some kind, the empty one included.
 pub data Runs (S : State → State → Type 0) (σ : State) : State → Type 0 where
   stay : Runs S σ σ
   next : {τ υ : State} → Runs S σ τ → S τ υ → Runs S σ υ
 
--- A run of a policy is any finite sequence of its steps.
+-- A run of a policy is any finite sequence of moves. `Runs (Step P)` are those in which nobody joins or leaves.
 abbrev pub Run : Policy → State → State → Type 0
-Run P = Runs (Step P)
+Run P = Runs (Move P)
 
--- A state is bad when some L user holds all roles of some goal.
+-- A state is bad when some present L user holds all roles of some goal.
 pub record Bad (goals : List RoleSet) (σ : State) : Type 0 where
   pub user : ℕ
   pub present : Present σ user

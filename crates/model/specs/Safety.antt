@@ -2,19 +2,19 @@
 use Prim.Native.Nat.{ℕ}
 use mathlib.Core.Bool.{false≢true}
 use mathlib.Core.Logic.{_⊎_, inl, inr, ⊎-elim}
-use mathlib.Core.Path.{_≡_, sym, subst, _∙_}
+use mathlib.Core.Path.{_≡_, refl, sym, subst, _∙_}
 use lib.ListN.{set}
 use Rattle.roles.specs.declared.RoleSet.{RoleSet}
-use Rattle.roles.specs.Sets.{withOf, withoutOf}
+use Rattle.roles.specs.Sets.{emptySet, withOf, withoutOf}
 use Rattle.roles.specs.Members.{_∈_, Share, Within}
 use Rattle.roles.specs.MemberLaws.{below, empty-none, with-cases, with-old, with-new, without-old, without-gone, without-other}
 use Rattle.model.specs.declared.Assign.{Assign}
 use Rattle.model.specs.declared.Revoke.{Revoke}
 use Rattle.model.specs.declared.Person.{Person}
-use Rattle.model.specs.Policy.{L, _⊑_, Policy, State, person, Holds, CanAssign, CanRevoke, withRole, withoutRole, granted, revoked, Step, Run, Bad}
+use Rattle.model.specs.Policy.{Label, L, _⊑_, Policy, State, newcomer, person, Holds, CanAssign, CanRevoke, withRole, withoutRole, granted, revoked, Step, leaver, joined, departed, Move, Run, Bad}
 use Rattle.model.specs.Typing.{Typing, Inconsistent, Held, Absent, Closing, closure, UpTo, Suits, HeldFor, AbsentFor, AssignPasses, RevokePasses, WellTyped, HoldingsPass, GoalPasses, RulesPass, AcceptedBy, Accepted}
 use Rattle.model.specs.Closure.{Truthful, closure-truthful}
-use Rattle.model.specs.States.{everyone, runs-keep}
+use Rattle.model.specs.States.{everyone, everyone-joined, runs-keep}
 
 -- Nobody who is well typed holds an inconsistent role (source 003, lemma 10).
 holder-consistent : {Γ : Typing} {p : Person} {role : ℕ} → WellTyped Γ p → role ∈ p .roles → Inconsistent Γ role → ⊥
@@ -67,14 +67,21 @@ revoke-typed {Γ} {p} {target} typed unneeded = record {
   };
 }
 
--- Subject reduction: each step of a policy whose rules pass keeps the holdings well typed, with any truthful closing.
+-- Who holds nothing is well typed.
+idle-typed : {Γ : Typing} {p : Person} → p .roles ≡ emptySet → WellTyped Γ p
+idle-typed {p = p} idle = record { label = λ m. absurd (none m); minus = λ m. absurd (none m); plus = λ m. absurd (none m) }
+  where
+    none : {role : ℕ} → role ∈ p .roles → ⊥
+    none {role} m = empty-none (subst (λ (s : RoleSet). role ∈ s) idle m)
+
+-- Subject reduction: each move in a directory with a policy whose rules pass keeps the holdings well typed, with any truthful closing.
 module _ {C : Closing} (truthful : Truthful C) {Γ : Typing} where
   -- the one person whom a step changes stays well typed
   assign-keeps : {σ : State} {actor user : ℕ} {rule : Assign} → AssignPasses C Γ rule → HoldingsPass Γ σ → CanAssign σ actor rule user → (Holds σ user (rule .target) → ⊥) → WellTyped Γ (withRole (person σ user) (rule .target))
   assign-keeps {σ} {actor} {user} {rule} passes typed can fresh = go passes
     where
       self : WellTyped Γ (person σ user)
-      self = typed .user (can .user-present)
+      self = typed .user (can .user-present .listed)
 
       lacks : Share (withOf (rule .negative) (rule .target)) (person σ user .roles) → ⊥
       lacks shared =
@@ -88,25 +95,39 @@ module _ {C : Closing} (truthful : Truthful C) {Γ : Typing} where
       truly-absent role h = truthful .absent self (can .all .all) lacks h
 
       go : AssignPasses C Γ rule → WellTyped Γ (withRole (person σ user) (rule .target))
-      go (AssignPasses.no-actor bad) = absurd (holder-consistent (typed .user (can .actor-present)) (can .actor-holds .held) bad)
+      go (AssignPasses.no-actor bad) = absurd (holder-consistent (typed .user (can .actor-present .listed)) (can .actor-holds .held) bad)
       go (AssignPasses.no-user clash) = absurd (truly-absent (clash .role) (clash .is-absent) (truly-held (clash .role) (clash .is-held)))
       go (AssignPasses.suits fits) = grant-typed self truly-held truly-absent fits
 
   revoke-keeps : {σ : State} {actor user : ℕ} {rule : Revoke} → RevokePasses Γ rule → HoldingsPass Γ σ → CanRevoke σ actor rule user → WellTyped Γ (withoutRole (person σ user) (rule .target))
-  revoke-keeps (RevokePasses.no-actor bad) typed can = absurd (holder-consistent (typed .user (can .actor-present)) (can .actor-holds .held) bad)
-  revoke-keeps (RevokePasses.unneeded free) typed can = revoke-typed (typed .user (can .user-present)) free
+  revoke-keeps (RevokePasses.no-actor bad) typed can = absurd (holder-consistent (typed .user (can .actor-present .listed)) (can .actor-holds .held) bad)
+  revoke-keeps (RevokePasses.unneeded free) typed can = revoke-typed (typed .user (can .user-present .listed)) free
 
   -- and so does everyone
   kept : {σ : State} (user : ℕ) {p : Person} → HoldingsPass Γ σ → WellTyped Γ p → HoldingsPass Γ (set σ user p)
   kept {σ} user typed new = record { user = λ {user = other} there. everyone (WellTyped Γ) σ user (λ u here. typed .user here) new other there }
+
+  -- with who joins and who leaves, who hold nothing
+  joining-keeps : {σ : State} (clearance : Label) → HoldingsPass Γ σ → HoldingsPass Γ (joined σ clearance)
+  unfolding newcomer
+  joining-keeps {σ} clearance typed = record { user = λ {user = other} there. everyone-joined (WellTyped Γ) σ clearance (λ u here. typed .user here) (idle-typed refl) other there }
+
+  leaving-keeps : {σ : State} (user : ℕ) → HoldingsPass Γ σ → HoldingsPass Γ (departed σ user)
+  unfolding departed leaver
+  leaving-keeps user typed = kept user typed (idle-typed refl)
 
   step-keeps : {P : Policy} {σ τ : State} → RulesPass C Γ P → HoldingsPass Γ σ → Step P σ τ → HoldingsPass Γ τ
   unfolding granted revoked
   step-keeps rules typed (Step.assign {user = user} listed can fresh) = kept user typed (assign-keeps (rules .assigns listed) typed can fresh)
   step-keeps rules typed (Step.revoke {user = user} listed can held) = kept user typed (revoke-keeps (rules .revokes listed) typed can)
 
+  move-keeps : {P : Policy} {σ τ : State} → RulesPass C Γ P → HoldingsPass Γ σ → Move P σ τ → HoldingsPass Γ τ
+  move-keeps rules typed (Move.step step) = step-keeps rules typed step
+  move-keeps rules typed (Move.join clearance) = joining-keeps clearance typed
+  move-keeps rules typed (Move.leave {user = user} here) = leaving-keeps user typed
+
   pub run-keeps : {P : Policy} {σ τ : State} → RulesPass C Γ P → HoldingsPass Γ σ → Run P σ τ → HoldingsPass Γ τ
-  run-keeps rules typed run = runs-keep (HoldingsPass Γ) (λ σ τ. step-keeps rules) typed run
+  run-keeps rules typed run = runs-keep (HoldingsPass Γ) (λ σ τ. move-keeps rules) typed run
 
   -- A goal that passes is held whole by no well-typed L person.
   goal-safe : {p : Person} {goal : RoleSet} → GoalPasses C Γ goal → WellTyped Γ p → p .clearance ≡ L → Within goal (p .roles) → ⊥
@@ -117,7 +138,7 @@ module _ {C : Closing} (truthful : Truthful C) {Γ : Typing} where
   pub accepted-by-safe : {P : Policy} {σ τ : State} → AcceptedBy C Γ P σ → Run P σ τ → Bad (P .goals) τ → ⊥
   accepted-by-safe accepted run bad =
       let typed = run-keeps (accepted .rules) (accepted .holdings) run in
-      goal-safe (accepted .goals (bad .listed)) (typed .user (bad .present)) (bad .low) (bad .holds .all)
+      goal-safe (accepted .goals (bad .listed)) (typed .user (bad .present .listed)) (bad .low) (bad .holds .all)
 
 -- An accepted typing: no run from the initial holdings reaches a bad state.
 pub accepted-safe : {Γ : Typing} {P : Policy} {σ τ : State} → Accepted Γ P σ → Run P σ τ → Bad (P .goals) τ → ⊥

@@ -1,16 +1,17 @@
 -- Typings, the closure, what passes, what is accepted, and the sum, in the order of document 01, "Typings".
-use Prim.Native.Nat.{ℕ}
+use Prim.Native.Nat.{ℕ, _<_}
 use mathlib.Core.Bool.{_||_}
 use mathlib.Core.List.{List·Memᴰ as Listed}
 use mathlib.Core.Logic.{_⊎_}
 use mathlib.Core.Path.{_≡_}
+use lib.ListN.{length}
 use Rattle.roles.specs.declared.RoleSet.{RoleSet}
 use Rattle.roles.specs.Sets.{emptySet, withOf, unionOf}
 use Rattle.roles.specs.Members.{_∈_, Share, Within}
 use Rattle.model.specs.declared.Assign.{Assign}
 use Rattle.model.specs.declared.Revoke.{Revoke}
 use Rattle.model.specs.declared.Person.{Person}
-use Rattle.model.specs.Policy.{Label, L, H, _⊑_, Policy, State, person, Present}
+use Rattle.model.specs.Policy.{Label, L, H, _⊑_, Policy, State, person}
 
 -- A label, a plus set and a minus set for each role. Meaning: who holds the role has at least that clearance, holds all the
 -- plus roles and none of the minus roles.
@@ -95,7 +96,7 @@ pub record WellTyped (Γ : Typing) (p : Person) : Type 0 where
   pub plus : {role : ℕ} → role ∈ p .roles → Within (Γ .plus role) (p .roles)
 
 pub record HoldingsPass (Γ : Typing) (σ : State) : Type 0 where
-  pub user : {user : ℕ} → Present σ user → WellTyped Γ (person σ user)
+  pub user : {user : ℕ} → user < length σ → WellTyped Γ (person σ user)
 
 -- A goal passes when the closure of (goal, nothing) has a held role labelled H or a role both held and absent.
 pub data GoalPasses (C : Closing) (Γ : Typing) (goal : RoleSet) : Type 0 where

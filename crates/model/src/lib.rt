@@ -1,6 +1,6 @@
 // The records that policies, states and typings are made of.
 ghost use mathlib.Core.Path.{_≡_};
-ghost use Rattle.model.specs.Policy.{withRoles, withRole, withoutRole};
+ghost use Rattle.model.specs.Policy.{newcomer, withRoles, withRole, withoutRole, leaver};
 use roles::RoleSet;
 
 // An actor who holds `admin` gives `target` to a user who holds all of `positive`, none of `negative` and not yet `target`.
@@ -17,19 +17,32 @@ pub struct Revoke {
     pub target: usize,
 }
 
-// A user's clearance, true for H and false for L, and the roles that the user holds.
+// A user's clearance, true for H and false for L, whether the user is present, and the roles that the user holds.
 pub struct Person {
     pub clearance: bool,
+    pub present: bool,
     pub roles: RoleSet,
 }
 
 impl Person {
+    // Who has just come: present, with no roles.
+    pub fn newcomer(clearance: bool) -> Person
+        ensures { λ r. ⌜ r ≡ newcomer clearance ⌝ }
+    {
+        Person {
+            clearance,
+            present: true,
+            roles: RoleSet::empty(),
+        }
+    }
+
     // The person with other roles, and all else as it was.
     fn with_roles(self, roles: RoleSet) -> Self
         ensures { λ r. ⌜ r ≡ withRoles self roles ⌝ }
     {
         Person {
             clearance: self.clearance,
+            present: self.present,
             roles,
         }
     }
@@ -46,6 +59,17 @@ impl Person {
         ensures { λ r. ⌜ r ≡ withoutRole self role ⌝ }
     {
         self.with_roles(self.roles.without(role))
+    }
+
+    // The person who has left: gone, with no roles.
+    pub fn leaver(self) -> Self
+        ensures { λ r. ⌜ r ≡ leaver self ⌝ }
+    {
+        Person {
+            clearance: self.clearance,
+            present: false,
+            roles: RoleSet::empty(),
+        }
     }
 }
 

@@ -10,7 +10,7 @@ use Rattle.text.specs.Forms.{bytes}
 use Rattle.reading.specs.Policy.{Said, readPolicy}
 use Rattle.showing.specs.Fields.{fieldsOn}
 use Rattle.drafting.specs.PolicyText.{policyText}
-use Rattle.summing.specs.Outcome.{Outcome, leaves, writes}
+use Rattle.summing.specs.Outcome.{leaves, writes}
 use Rattle.scribing.specs.declared.SpellAnswer.{SpellAnswer}
 use Rattle.scribing.specs.Spell.{spellWritten, spellOutcome}
 use Rattle.wording.specs.declared.Mention.{Mention}

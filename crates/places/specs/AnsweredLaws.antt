@@ -40,11 +40,11 @@ module _ (policy evidence : List ℕ) where
   trace-refusal s (refused number line) = refl
   trace-refusal s (read t) = ranned (runOf (policyOf s) (s .holdings) (t .steps))
     where
-      found : (b : Bool) (f : Found) → record { number = 0; line = 0 } ≡ refusalIn (traceAnswer (cond b (TraceVerdict.Short (length (t .steps))) (TraceVerdict.Attacked (length (t .steps)) (f .user - 1) (nameAt (s .users) (f .user - 1)) (f .goal))))
+      found : (b : Bool) (f : Found) → record { number = 0; line = 0 } ≡ refusalIn (traceAnswer (cond b (TraceVerdict.Short (length (t .steps))) (TraceVerdict.Attacked (length (t .steps)) (f .user - 1) (nameAt (t .names) (f .user - 1)) (f .goal))))
       found true f = refl
       found false f = refl
 
-      ranned : (x : Ran) → record { number = 0; line = 0 } ≡ refusalIn (traceAnswer (ranVerdict (length (t .steps)) (s .users) (s .goals) x))
+      ranned : (x : Ran) → record { number = 0; line = 0 } ≡ refusalIn (traceAnswer (ranVerdict (length (t .steps)) (t .names) (s .goals) x))
       ranned (broken number) = refl
       ranned (ran last) = found (eqb (firstBad last (s .goals) .user) 0) (firstBad last (s .goals))
 

@@ -5,7 +5,7 @@ use mathlib.Core.List.{List}
 use mathlib.Core.Logic.{_⊎_, inl, inr}
 use mathlib.Core.Path.{_≡_, refl, sym, ap, subst, subst⁻¹, _∙_}
 use borrow.Author.Tests.{lt-leb, le-leb}
-use lib.Dec.{leb}
+use lib.Dec.{leb, lit≤, lit<}
 use lib.ListN.{length, take, drop}
 use native.Mathlib.Omega.{arith}
 use Rattle.text.specs.Pieces.{part}
@@ -24,8 +24,8 @@ use Rattle.traces.specs.TraceRefusalExact.{trace-refusal-exact}
 use Rattle.places.specs.declared.Refusal.{Refusal}
 use Rattle.places.specs.declared.Span.{Span}
 use Rattle.places.specs.declared.BadPlace.{BadPlace}
-use Rattle.places.specs.Place.{told, refusalAfter, refusalAs, refusalOf, typingRefusalOf, noSpan, badSpan, placeOf, bytesAt, badPlace, badLine, badTypingPlace, badTypingLine}
-use Rattle.places.specs.PlaceLaws.{bad-none, bad-policy, bad-evidence, place-told}
+use Rattle.places.specs.Place.{told, refusalAfter, refusalAs, refusalOf, typingRefusalOf, noSpan, noLine, badSpan, placeOf, bytesAt, badPlace, badLine, badTypingPlace, badTypingLine}
+use Rattle.places.specs.PlaceLaws.{line-none, line-above, line-some, bad-none, bad-policy, bad-evidence, place-told}
 use Rattle.places.specs.BadLines.{lineAt, startOf, HasLine, PastLast, OfPolicy, OfEvidence, OfNeither, linePlace, noPlace, BadAt}
 use Rattle.places.specs.BadLines as bad
 use Rattle.places.specs.LinePlaces.{some-piece, line-found, past-lost}
@@ -39,9 +39,9 @@ below-evidence bad.OfPolicy.malformed = omega arith
 below-evidence bad.OfPolicy.above-limit = omega arith
 below-evidence bad.OfPolicy.undeclared = omega arith
 
-from-evidence : {k : ℕ} → OfEvidence k → 14 ≤ k
-from-evidence bad.OfEvidence.malformed = omega arith
-from-evidence bad.OfEvidence.misnamed = omega arith
+from-evidence : {k : ℕ} → OfEvidence k → (14 ≤ k) × (k ≤ 16)
+from-evidence bad.OfEvidence.malformed = (lit≤ tt, lit≤ tt)
+from-evidence bad.OfEvidence.misnamed = (lit≤ tt, lit≤ tt)
 
 -- a number past the last line is one from 1 on
 past-some : {n : ℕ} {text : List ℕ} → PastLast n text → n ≡ 0 → ⊥
@@ -77,26 +77,32 @@ module _ (policy evidence : List ℕ) where
   of-policy {k} {n} of (inl has) =
       let r : Refusal = record { number = k; line = n } in
       let low : leb 14 k ≡ false = lt-leb 14 k (below-evidence of) in
-      let span = sym (bad-policy policy evidence r (λ none. omega (arith, has .from-one)) (below-evidence of)) ∙ line-found n policy has .span in
+      let span = sym (bad-policy policy evidence r (line-some r (λ none. omega (arith, has .from-one)) (omega (arith, below-evidence of))) (below-evidence of)) ∙ line-found n policy has .span in
       bad-at r (place-by r span ∙ ap (λ (b : Bool). record { evidence = b; from = startOf n policy; to = startOf n policy + length (lineAt n policy) }) low) (line-bytes n policy has) (bad.BadAt.in-policy of has)
   of-policy {k} {n} of (inr past) =
       let r : Refusal = record { number = k; line = n } in
-      bad-at r (nowhere r (sym (bad-policy policy evidence r (past-some past) (below-evidence of)) ∙ past-lost n policy past)) refl (bad.BadAt.past-policy of past)
+      bad-at r (nowhere r (sym (bad-policy policy evidence r (line-some r (past-some past) (omega (arith, below-evidence of))) (below-evidence of)) ∙ past-lost n policy past)) refl (bad.BadAt.past-policy of past)
 
   of-evidence : {k n : ℕ} → OfEvidence k → HasLine n evidence ⊎ PastLast n evidence → Bad (record { number = k; line = n })
   unfolding linePlace noPlace
   of-evidence {k} {n} of (inl has) =
       let r : Refusal = record { number = k; line = n } in
-      let high : leb 14 k ≡ true = le-leb 14 k (from-evidence of) in
-      let span = sym (bad-evidence policy evidence r (λ none. omega (arith, has .from-one)) (from-evidence of)) ∙ line-found n evidence has .span in
+      let high : leb 14 k ≡ true = le-leb 14 k (from-evidence of .0) in
+      let span = sym (bad-evidence policy evidence r (line-some r (λ none. omega (arith, has .from-one)) (from-evidence of .1)) (from-evidence of .0)) ∙ line-found n evidence has .span in
       bad-at r (place-by r span ∙ ap (λ (b : Bool). record { evidence = b; from = startOf n evidence; to = startOf n evidence + length (lineAt n evidence) }) high) (line-bytes n evidence has) (bad.BadAt.in-evidence of has)
   of-evidence {k} {n} of (inr past) =
       let r : Refusal = record { number = k; line = n } in
-      bad-at r (nowhere r (sym (bad-evidence policy evidence r (past-some past) (from-evidence of)) ∙ past-lost n evidence past)) refl (bad.BadAt.past-evidence of past)
+      bad-at r (nowhere r (sym (bad-evidence policy evidence r (line-some r (past-some past) (from-evidence of .1)) (from-evidence of .0)) ∙ past-lost n evidence past)) refl (bad.BadAt.past-evidence of past)
 
-  of-neither : {k : ℕ} → OfNeither k → Bad (record { number = k; line = 0 })
+  no-bad : {k n : ℕ} → OfNeither k n → noLine (record { number = k; line = n }) ≡ true
+  no-bad bad.OfNeither.none = line-none _ refl
+  no-bad bad.OfNeither.policy-long = line-none _ refl
+  no-bad bad.OfNeither.evidence-long = line-none _ refl
+  no-bad bad.OfNeither.above-limit = line-above _ (lit< tt)
+
+  of-neither : {k n : ℕ} → OfNeither k n → Bad (record { number = k; line = n })
   unfolding noPlace
-  of-neither {k} of = let r : Refusal = record { number = k; line = 0 } in bad-at r (nowhere r (sym (bad-none policy evidence r refl))) refl (bad.BadAt.no-line of)
+  of-neither {k} {n} of = let r : Refusal = record { number = k; line = n } in bad-at r (nowhere r (sym (bad-none policy evidence r (no-bad of)))) refl (bad.BadAt.no-line of)
 
   -- ---- each refusal of a policy, and of a piece of evidence
 
@@ -108,10 +114,11 @@ module _ (policy evidence : List ℕ) where
   policy-refusal (policies.PolicyRefusal.no-end fits up tail) = of-policy bad.OfPolicy.malformed (line-left up tail)
   policy-refusal (policies.PolicyRefusal.after-end at end) = of-policy bad.OfPolicy.malformed (inl (line-after at))
 
-  evidence-refusal : {S : Type 0} {judge : S → List ℕ → Judged S} {formed known last : S → List ℕ → Bool} {start : S} {k n : ℕ} → EvidenceRefusal judge formed known last start evidence k n → Bad (record { number = k; line = n })
+  evidence-refusal : {S : Type 0} {judge : S → List ℕ → Judged S} {formed known within last : S → List ℕ → Bool} {start : S} {k n : ℕ} → EvidenceRefusal judge formed known within last start evidence k n → Bad (record { number = k; line = n })
   evidence-refusal (evidences.too-long above) = of-neither bad.OfNeither.evidence-long
   evidence-refusal (evidences.malformed at fault) = of-evidence bad.OfEvidence.malformed (inl (line-judged at .1))
   evidence-refusal (evidences.misnamed at fault) = of-evidence bad.OfEvidence.misnamed (inl (line-judged at .1))
+  evidence-refusal (evidences.above-limit at fault) = of-neither bad.OfNeither.above-limit
   evidence-refusal (evidences.no-end fits up tail) = of-evidence bad.OfEvidence.malformed (line-left up tail)
   evidence-refusal (evidences.after-end at end) = of-evidence bad.OfEvidence.malformed (inl (line-after at))
 

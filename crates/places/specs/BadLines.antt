@@ -43,11 +43,12 @@ pub data OfEvidence : ℕ → Type 0 where
   malformed : OfEvidence 15
   misnamed : OfEvidence 16
 
--- Those without a bad line: no refusal, and a text that is too long.
-pub data OfNeither : ℕ → Type 0 where
-  none : OfNeither 0
-  policy-long : OfNeither 10
-  evidence-long : OfNeither 14
+-- Those without a bad line, with their line: no refusal, a text that is too long, and a user name above the limit.
+pub data OfNeither : (number line : ℕ) → Type 0 where
+  none : OfNeither 0 0
+  policy-long : OfNeither 10 0
+  evidence-long : OfNeither 14 0
+  above-limit : {n : ℕ} → OfNeither 21 n
 
 -- The place of a line of the evidence or of the policy.
 unfoldable pub linePlace : (evidence : Bool) (n : ℕ) (text : List ℕ) → BadPlace
@@ -64,4 +65,4 @@ pub data BadAt (policy evidence : List ℕ) : (number line : ℕ) → BadPlace �
   in-evidence : {k n : ℕ} → OfEvidence k → HasLine n evidence → BadAt policy evidence k n (linePlace true n evidence) (lineAt n evidence)
   past-policy : {k n : ℕ} → OfPolicy k → PastLast n policy → BadAt policy evidence k n noPlace []
   past-evidence : {k n : ℕ} → OfEvidence k → PastLast n evidence → BadAt policy evidence k n noPlace []
-  no-line : {k : ℕ} → OfNeither k → BadAt policy evidence k 0 noPlace []
+  no-line : {k n : ℕ} → OfNeither k n → BadAt policy evidence k n noPlace []

@@ -1,6 +1,6 @@
 -- The refusal of a policy and a piece of evidence, and where the bad line stands (document 01, "Verdicts and refusal numbers").
 use Prim.Native.Nat.{ℕ, zero, suc, _+_, _-_}
-use mathlib.Core.Bool.{Bool, true, false, cond, _&&_}
+use mathlib.Core.Bool.{Bool, true, false, cond, _&&_, _||_}
 use mathlib.Core.List.{List}
 use mathlib.Core.Path.{_≡_}
 use lib.Dec.{ltb, leb, eqb}
@@ -53,9 +53,13 @@ spanOf text at (suc skipped) =
     let rest = spanOf text (stop + 1) skipped in
     cond (ltb stop (length text)) rest noSpan
 
--- The bad line of 11 to 13 is a line of the policy, that of 15 and 16 a line of the evidence; 10 and 14 have line 0.
+-- No line is bad: 10 and 14 have line 0, and 21 has no bad line.
+unfoldable pub noLine : Refusal → Bool
+noLine r = eqb (r .line) 0 || ltb 16 (r .number)
+
+-- The bad line of 11 to 13 is a line of the policy, that of 15 and 16 a line of the evidence.
 unfoldable pub badSpan : (policy evidence : List ℕ) → Refusal → Span
-badSpan policy evidence r = cond (eqb (r .line) 0) noSpan (cond (ltb (r .number) 14) (spanOf policy 0 (r .line - 1)) (spanOf evidence 0 (r .line - 1)))
+badSpan policy evidence r = cond (noLine r) noSpan (cond (ltb (r .number) 14) (spanOf policy 0 (r .line - 1)) (spanOf evidence 0 (r .line - 1)))
 
 -- Which text the bad line of a refusal stands in, and where: nowhere, at the policy's start, where no line is bad.
 unfoldable pub placeOf : (policy evidence : List ℕ) → Refusal → BadPlace

@@ -1,6 +1,6 @@
 -- The refusal of two texts and the bad line: the laws of their definitions.
 use Prim.Native.Nat.{ℕ, zero, suc, _+_, _-_, _≤_, _<_, zero-le}
-use mathlib.Core.Bool.{Bool, true, false, cond, _&&_, and-eq-true-iff, and-true, true≢false}
+use mathlib.Core.Bool.{Bool, true, false, cond, _&&_, and-eq-true-iff, and-true, true≢false, or-true}
 use mathlib.Core.List.{List, [], _∷_}
 use mathlib.Core.Path.{_≡_, refl, sym, ap, subst, subst⁻¹, _∙_}
 use borrow.Author.Tests.{lt-ltb, le-ltb, ltb-true, ltb-false, leb-true, le-leb, eq-eqb, ne-eqb}
@@ -24,7 +24,7 @@ use Rattle.places.specs.declared.Span.{Span}
 use Rattle.places.specs.declared.BadPlace.{BadPlace}
 use Rattle.typings.specs.TypingText.{Typed, readTyping, refusedTyping, answerOf, typingRead}
 use Rattle.traces.specs.TraceText.{readTrace}
-use Rattle.places.specs.Place.{told, refusalAfter, refusalAs, typingRefusalOf, noSpan, spanOf, badSpan, placeOf, bytesAt, beginsAt, lentRefusal}
+use Rattle.places.specs.Place.{told, refusalAfter, refusalAs, typingRefusalOf, noSpan, spanOf, noLine, badSpan, placeOf, bytesAt, beginsAt, lentRefusal}
 
 module _ (typing : Bool) (policy evidence : List ℕ) where
   -- a policy that is refused decides, and one that is read leaves it to the evidence
@@ -144,7 +144,7 @@ span-lost text at (suc skipped) lost = go (ltb (at + indexOf 10 (drop at text)) 
 -- of a refusal in the evidence, and of one in the policy
 span-evidence : (policy evidence : List ℕ) (r : Refusal) → leb 14 (r .number) ≡ true → Inside (badSpan policy evidence r) evidence
 unfolding badSpan
-span-evidence policy evidence r high = go (eqb (r .line) 0)
+span-evidence policy evidence r high = go (noLine r)
   where
     go : (b : Bool) → Inside (cond b noSpan (cond (ltb (r .number) 14) (spanOf policy 0 (r .line - 1)) (spanOf evidence 0 (r .line - 1)))) evidence
     go true = none-inside evidence
@@ -152,7 +152,7 @@ span-evidence policy evidence r high = go (eqb (r .line) 0)
 
 span-policy : (policy evidence : List ℕ) (r : Refusal) → (badSpan policy evidence r .found && leb 14 (r .number)) ≡ false → Inside (badSpan policy evidence r) policy
 unfolding badSpan
-span-policy policy evidence r low = go (eqb (r .line) 0) (ltb (r .number) 14) refl low
+span-policy policy evidence r low = go (noLine r) (ltb (r .number) 14) refl low
   where
     go : (b d : Bool) → ltb (r .number) 14 ≡ d → (cond b noSpan (cond d (spanOf policy 0 (r .line - 1)) (spanOf evidence 0 (r .line - 1))) .found && leb 14 (r .number)) ≡ false
         → Inside (cond b noSpan (cond d (spanOf policy 0 (r .line - 1)) (spanOf evidence 0 (r .line - 1)))) policy
@@ -163,17 +163,30 @@ span-policy policy evidence r low = go (eqb (r .line) 0) (ltb (r .number) 14) re
         let lost = sym (and-true (spanOf evidence 0 (r .line - 1) .found)) ∙ ap (λ (x : Bool). spanOf evidence 0 (r .line - 1) .found && x) (sym high) ∙ h in
         subst⁻¹ (λ (x : Span). Inside x policy) (span-lost evidence 0 (r .line - 1) lost) (none-inside policy)
 
-pub bad-none : (policy evidence : List ℕ) (r : Refusal) → r .line ≡ 0 → noSpan ≡ badSpan policy evidence r
-unfolding badSpan
-bad-none policy evidence r none = rw (eq-eqb (r .line) 0 none)
+pub line-none : (r : Refusal) → r .line ≡ 0 → noLine r ≡ true
+unfolding noLine
+line-none r none = rw (eq-eqb (r .line) 0 none)
 
-pub bad-policy : (policy evidence : List ℕ) (r : Refusal) → (r .line ≡ 0 → ⊥) → r .number < 14 → spanOf policy 0 (r .line - 1) ≡ badSpan policy evidence r
-unfolding badSpan
-bad-policy policy evidence r some low = rw (ne-eqb (r .line) 0 some, lt-ltb (r .number) 14 low)
+pub line-above : (r : Refusal) → 16 < r .number → noLine r ≡ true
+unfolding noLine
+line-above r above = rw (lt-ltb 16 (r .number) above, or-true)
 
-pub bad-evidence : (policy evidence : List ℕ) (r : Refusal) → (r .line ≡ 0 → ⊥) → 14 ≤ r .number → spanOf evidence 0 (r .line - 1) ≡ badSpan policy evidence r
-unfolding badSpan
-bad-evidence policy evidence r some high = rw (ne-eqb (r .line) 0 some, le-ltb (r .number) 14 high)
+pub line-some : (r : Refusal) → (r .line ≡ 0 → ⊥) → r .number ≤ 16 → noLine r ≡ false
+unfolding noLine
+line-some r some most = rw (ne-eqb (r .line) 0 some, le-ltb 16 (r .number) most)
+
+module _ (policy evidence : List ℕ) (r : Refusal) where
+  pub bad-none : noLine r ≡ true → noSpan ≡ badSpan policy evidence r
+  unfolding badSpan
+  bad-none none = rw none
+
+  pub bad-policy : noLine r ≡ false → r .number < 14 → spanOf policy 0 (r .line - 1) ≡ badSpan policy evidence r
+  unfolding badSpan
+  bad-policy some low = rw (some, lt-ltb (r .number) 14 low)
+
+  pub bad-evidence : noLine r ≡ false → 14 ≤ r .number → spanOf evidence 0 (r .line - 1) ≡ badSpan policy evidence r
+  unfolding badSpan
+  bad-evidence some high = rw (some, le-ltb (r .number) 14 high)
 
 -- the place of a refusal
 module _ (policy evidence : List ℕ) (q : Refusal) where
@@ -222,5 +235,5 @@ lent-enough words r enough = memory-enough ledgerWords words (record { number = 
 
 -- and in too few no line is bad: it is nowhere, at the policy's start.
 pub lent-nowhere : (policy evidence : List ℕ) (words : ℕ) (r : Refusal) → words < ledgerWords → placeOf policy evidence (lentRefusal words r) ≡ record { evidence = false; from = 0; to = 0 }
-unfolding lentRefusal placeOf badSpan noSpan
+unfolding lentRefusal placeOf noLine badSpan noSpan
 lent-nowhere policy evidence words r few = ap (placeOf policy evidence) (memory-short ledgerWords words (record { number = noMemory; line = 0 }) r few)

@@ -142,7 +142,7 @@ pub fn line_span(text: &[u8], number: usize) -> Span
 fn bad_span(policy: &[u8], evidence: &[u8], r: Refusal) -> Span
     ensures { λ s. ⌜ s ≡ badSpan (now (policy .entry)) (now (evidence .entry)) r ⌝ }
 {
-    if r.line == 0 {
+    if (r.line == 0) | (16 < r.number) {
         return nowhere();
     }
     if r.number < 14 {

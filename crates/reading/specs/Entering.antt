@@ -8,11 +8,10 @@ use lib.ListN.{length, set}
 use lib.Seq.{sets, length-sets}
 use native.Mathlib.Omega.{arith}
 use Rattle.roles.specs.declared.RoleSet.{RoleSet}
-use Rattle.roles.specs.Sets.{emptySet}
 use Rattle.model.specs.declared.Assign.{Assign}
 use Rattle.model.specs.declared.Revoke.{Revoke}
 use Rattle.model.specs.declared.Person.{Person}
-use Rattle.model.specs.Policy.{nobody, person, withRole, granted}
+use Rattle.model.specs.Policy.{newcomer, nobody, person, withRole, granted, joined}
 use Rattle.tables.specs.declared.Name.{Name}
 use Rattle.ledgers.specs.Parts.{rowAt, stored, rowsIn}
 use Rattle.ledgers.specs.Ledger.{ledgerWords, roleNames, userNames, people, assignRules, revokeRules, goalSets}
@@ -64,13 +63,13 @@ module _ (words : List ℕ) (c : Counts) (room : ledgerWords ≤ length words) (
       }
 
   pub user-entered : (name : Name) (clearance : Bool) → c .users < 64
-      → ledgerSays (stored people (stored userNames words (c .users) name) (c .users) (record { clearance = clearance; roles = emptySet })) (record { stage = userKind; roles = c .roles; users = c .users + 1; assigns = c .assigns; revokes = c .revokes; goals = c .goals })
+      → ledgerSays (stored people (stored userNames words (c .users) name) (c .users) (newcomer clearance)) (record { stage = userKind; roles = c .roles; users = c .users + 1; assigns = c .assigns; revokes = c .revokes; goals = c .goals })
       ≡ added (ledgerSays words c) (Entry.User name clearance)
-  unfolding ledgerSays added noted kindOf
+  unfolding ledgerSays added noted kindOf joined
   user-entered name clearance free =
       let at = 512 + 4 * c .users in
       let there = 768 + 3 * c .users in
-      let new : Person = record { clearance = clearance; roles = emptySet } in
+      let new : Person = newcomer clearance in
       let named : List ℕ = stored userNames words (c .users) name in
       let long : length named ≡ length words = length-sets words at (userNames .row name) in
       λ i. record {

@@ -5,10 +5,10 @@ use mathlib.Core.List.{List, [], _∷_, _++_}
 use lib.Dec.{eqb}
 use lib.ListN.{length}
 use Rattle.roles.specs.declared.RoleSet.{RoleSet}
-use Rattle.roles.specs.Sets.{emptySet, hasRole}
+use Rattle.roles.specs.Sets.{hasRole}
 use Rattle.model.specs.declared.Assign.{Assign}
 use Rattle.model.specs.declared.Revoke.{Revoke}
-use Rattle.model.specs.Policy.{Policy, State, person, granted}
+use Rattle.model.specs.Policy.{Policy, State, person, granted, joined}
 use Rattle.tables.specs.declared.Name.{Name}
 use Rattle.lines.specs.declared.Counts.{Counts}
 use Rattle.lines.specs.declared.Entry.{Entry}
@@ -78,11 +78,11 @@ kindOf (Entry.Revoke rule) = revokeKind
 kindOf (Entry.Goal goal) = goalKind
 kindOf Entry.End = endKind
 
--- What an entry adds to its part: one more at the end, or a role to what a user holds.
+-- What an entry adds to its part: one more at the end, where a user has joined with no roles; or a role to what a user holds.
 unfoldable pub noted : Said → Entry → Said
 noted s Entry.Header = s
 noted s (Entry.Role name) = sayRoles (s .roles ++ (name ∷ [])) s
-noted s (Entry.User name clearance) = sayUsers (s .users ++ (name ∷ [])) (sayHoldings (s .holdings ++ (record { clearance = clearance; roles = emptySet } ∷ [])) s)
+noted s (Entry.User name clearance) = sayUsers (s .users ++ (name ∷ [])) (sayHoldings (joined (s .holdings) clearance) s)
 noted s (Entry.Has user role) = sayHoldings (granted (s .holdings) user role) s
 noted s (Entry.Assign rule) = sayAssigns (s .assigns ++ (rule ∷ [])) s
 noted s (Entry.Revoke rule) = sayRevokes (s .revokes ++ (rule ∷ [])) s

@@ -13,10 +13,10 @@ use Rattle.roles.specs.MemberLaws.{empty-none, empty-sized, with-cases, with-si
 use Rattle.model.specs.declared.Assign.{Assign}
 use Rattle.model.specs.declared.Revoke.{Revoke}
 use Rattle.model.specs.declared.Person.{Person}
-use Rattle.model.specs.Policy.{State, nobody, person, withRole, granted}
+use Rattle.model.specs.Policy.{State, newcomer, nobody, person, withRole, granted, joined}
 use Rattle.tables.specs.declared.Name.{Name}
 use Rattle.tables.specs.Names.{packed, placeOf}
-use Rattle.tables.specs.Named.{Named, named-more, named-none}
+use Rattle.tables.specs.Named.{named-more, named-none}
 use Rattle.text.specs.Forms.{bytes, isName, isLabel}
 use Rattle.text.specs.Lists.{each-more, each-set, each-get}
 use Rattle.text.specs.Pieces.{split, sameBytes}
@@ -66,7 +66,7 @@ say-roles h up listing = record {
   roles = listing;
   users = h .users;
   people = h .people;
-  holdings = λ p m. record { held = inside-more up (h .holdings p m .held) };
+  holdings = λ p m. record { here = h .holdings p m .here; held = inside-more up (h .holdings p m .held) };
   assigns = at-most-more (λ rule over. record { admin = omega (arith, over .admin); positive = inside-more up (over .positive); negative = inside-more up (over .negative); target = omega (arith, over .target) }) (h .assigns);
   revokes = at-most-more (λ rule over. record { admin = omega (arith, over .admin); target = omega (arith, over .target) }) (h .revokes);
   goals = at-most-more (λ goal over. inside-more up over) (h .goals);
@@ -105,7 +105,7 @@ placed-below names field known = ltb-true (placed names field) (length names) kn
 -- A good line keeps it so.
 entry-sound : (s : Said) (line : Line) → asked (countsOf s) (s .roles) (s .users) line .formed ≡ true → asked (countsOf s) (s .roles) (s .users) line .within ≡ true
     → asked (countsOf s) (s .roles) (s .users) line .known ≡ true → Sound s → Sound (noted s (asked (countsOf s) (s .roles) (s .users) line .says))
-unfolding asked noted countsOf person granted withRole nobody
+unfolding asked noted countsOf person granted withRole newcomer joined
 entry-sound s (header edition) formed within known h = h
 entry-sound s (role name) formed within known h =
     let (fits, new) = and-eq-true-iff (inOrder (s .stage) roleKind && isName name) (not (isDeclared (s .roles) name)) .0 formed in
@@ -115,13 +115,14 @@ entry-sound s (user name clearance) formed within known h =
     let (fits, new) = and-eq-true-iff (inOrder (s .stage) userKind && isName name && isLabel clearance) (not (isDeclared (s .users) name)) .0 formed in
     let form = and-eq-true-iff (inOrder (s .stage) userKind) (isName name) .0 (and-eq-true-iff (inOrder (s .stage) userKind && isName name) (isLabel clearance) .0 fits .0) .1 in
     say-users h (listing-more name (h .users) (ltb-true (length (s .users)) 64 within) form new)
-    (omega (arith, length-append (s .users) (packed name ∷ []), length-append (s .holdings) (record { clearance = sameBytes clearance (bytes "H"); roles = emptySet } ∷ []), h .people))
-    (each-more (PersonOver (length (s .roles))) (s .holdings) (h .holdings) (record { held = empty-inside }))
+    (omega (arith, length-append (s .users) (packed name ∷ []), length-append (s .holdings) (newcomer (sameBytes clearance (bytes "H")) ∷ []), h .people))
+    (each-more (PersonOver (length (s .roles))) (s .holdings) (h .holdings) (record { here = refl; held = empty-inside }))
 entry-sound s (has holder held) formed within known h =
     let (listed, declared) = and-eq-true-iff (isDeclared (s .users) holder) (isDeclared (s .roles) held) .0 known in
-    let old = each-get (PersonOver (length (s .roles))) (s .holdings) (placed (s .users) holder) (h .holdings) (record { held = empty-inside }) in
+    let there : placed (s .users) holder < length (s .holdings) = omega (arith, placed-below (s .users) holder listed, h .people) in
+    let old = each-get (PersonOver (length (s .roles))) (s .holdings) (placed (s .users) holder) nobody (h .holdings) there in
     say-holdings h (length-set (s .holdings) (placed (s .users) holder) _ ∙ h .people)
-    (each-set (PersonOver (length (s .roles))) (s .holdings) (placed (s .users) holder) (h .holdings) (record { held = inside-with (placed-below (s .roles) held declared) (old .held) }))
+    (each-set (PersonOver (length (s .roles))) (s .holdings) (placed (s .users) holder) (h .holdings) (record { here = old .here; held = inside-with (placed-below (s .roles) held declared) (old .held) }))
 entry-sound s (assign admin positive negative target) formed within known h =
     let (left, right) = and-eq-true-iff (isDeclared (s .roles) admin && allDeclared (s .roles) positive) (allDeclared (s .roles) negative && isDeclared (s .roles) target) .0 known in
     let (is-admin, plus) = and-eq-true-iff (isDeclared (s .roles) admin) (allDeclared (s .roles) positive) .0 left in

@@ -1,10 +1,10 @@
 -- What every policy that is read satisfies: its counts are within their limits, its names are well formed and stand once, and what its
 -- users hold, its rules and its goals name declared roles, in words of 64 bits.
 use Prim.Native.Nat.{ℕ, _≤_, _<_}
+use mathlib.Core.Bool.{true}
 use mathlib.Core.List.{List, List·Memᴰ as Listed}
 use mathlib.Core.Path.{_≡_}
 use lib.ListN.{length}
-use Rattle.roles.specs.declared.RoleSet.{RoleSet}
 use Rattle.model.specs.declared.Assign.{Assign}
 use Rattle.model.specs.declared.Revoke.{Revoke}
 use Rattle.model.specs.declared.Person.{Person}
@@ -34,8 +34,9 @@ pub record RevokeOver (roles : ℕ) (rule : Revoke) : Type 0 where
   pub admin : rule .admin < roles
   pub target : rule .target < roles
 
--- A person holds roles below a number only.
+-- A person is present and holds roles below a number only.
 pub record PersonOver (roles : ℕ) (p : Person) : Type 0 where
+  pub here : p .present ≡ true
   pub held : Inside roles (p .roles)
 
 pub record Sound (s : Said) : Type 0 where

@@ -24,7 +24,6 @@ use lines::REVOKE;
 use lines::ROLE;
 use lines::USER;
 use model::Person;
-use roles::RoleSet;
 
 // Whether an entry is no has pair that stands in the ledger already.
 pub fn is_new(ledger: &[u64], c: Counts, entry: Entry) -> bool
@@ -56,9 +55,9 @@ pub fn enter(ledger: &mut [u64], c: Counts, entry: Entry) -> Counts
             d.stage = ROLE;
         }
         Entry::User(name, clearance) => {
-            let roles = RoleSet::empty();
+            let user = Person::newcomer(clearance);
             store_user(ledger, c.users, name);
-            store_person(ledger, c.users, Person { clearance, roles });
+            store_person(ledger, c.users, user);
             d.users += 1;
             d.stage = USER;
         }

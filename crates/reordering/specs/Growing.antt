@@ -1,6 +1,6 @@
 -- A line that is read adds the line that is written of it: before the has lines, among them, or after them.
 use Prim.Native.Nat.{ℕ, suc, _≤_, _<_}
-use mathlib.Core.Bool.{Bool, true, false, cond}
+use mathlib.Core.Bool.{Bool, false, cond}
 use mathlib.Core.List.{List, [], _∷_, _++_, map, append-assoc, append-nil}
 use mathlib.Core.Path.{_≡_, refl, sym, ap, ap₂, subst, _∙_}
 use lib.ListN.{length, getD}
@@ -11,7 +11,7 @@ use Rattle.roles.specs.Sets.{emptySet, hasRole, withOf}
 use Rattle.model.specs.declared.Assign.{Assign}
 use Rattle.model.specs.declared.Revoke.{Revoke}
 use Rattle.model.specs.declared.Person.{Person}
-use Rattle.model.specs.Policy.{noAssign, noRevoke, nobody, person, withRole, granted}
+use Rattle.model.specs.Policy.{noAssign, noRevoke, newcomer, nobody, person, withRole, granted, joined}
 use Rattle.tables.specs.declared.Name.{Name}
 use Rattle.tables.specs.Names.{packed, nameAt}
 use Rattle.text.specs.Forms.{bytes}
@@ -100,28 +100,28 @@ role-grown s name past at no-users no-assigns no-revokes no-goals =
 
 -- A user, who holds nothing yet.
 pub user-grown : (s : Said) (name : Name) (clearance : Bool) → 10 ≤ s .stage → s .stage ≤ userKind → length (s .holdings) ≡ length (s .users) → Grown s (added s (Entry.User name clearance)) (lineText (s .roles) (s .users) (Entry.User name clearance))
-unfolding beforeOf afterOf written added noted kindOf blockSize element nameAt lineText person
+unfolding beforeOf afterOf written added noted kindOf blockSize element nameAt lineText person newcomer joined
 user-grown s name clearance past at people =
     let t = added s (Entry.User name clearance) in
-    let newcomer : Person = record { clearance = clearance; roles = emptySet } in
+    let new = newcomer clearance in
     let line : Name → Person → List (List ℕ) = λ n p. (bytes "user" ++ field (spelled n) ++ field (labelText (p .clearance))) ∷ [] in
     let held : ℕ → Name → Person → List (List ℕ) = λ k n p. picked (λ (r : ℕ). bytes "has" ++ field (spelled n) ++ field (spelled (nameAt (s .roles) r))) 0 (length (s .roles)) (p .roles) in
-    let latest : getD (s .holdings ++ (newcomer ∷ [])) (length (s .users)) nobody ≡ newcomer = ap (λ (k : ℕ). getD (s .holdings ++ (newcomer ∷ [])) k nobody) (sym people) ∙ new-at (s .holdings) newcomer nobody in
-    let users : written t Block.Users ≡ written s Block.Users ++ line name newcomer =
+    let latest : getD (s .holdings ++ (new ∷ [])) (length (s .users)) nobody ≡ new = ap (λ (k : ℕ). getD (s .holdings ++ (new ∷ [])) k nobody) (sym people) ∙ new-at (s .holdings) new nobody in
+    let users : written t Block.Users ≡ written s Block.Users ++ line name new =
     longer-block (elementLines s Block.Users) (elementLines t Block.Users) (one-longer (s .users) name)
-    (λ k below. ap₂ line (old-at (s .users) name (packed []) k below) (old-at (s .holdings) newcomer nobody k (omega (arith, people, below)))) (ap₂ line (new-at (s .users) name (packed [])) latest) in
+    (λ k below. ap₂ line (old-at (s .users) name (packed []) k below) (old-at (s .holdings) new nobody k (omega (arith, people, below)))) (ap₂ line (new-at (s .users) name (packed [])) latest) in
     let has : written t Block.Has ≡ written s Block.Has ++ [] =
     longer-block (elementLines s Block.Has) (elementLines t Block.Has) (one-longer (s .users) name)
     (λ k below.
-    held-lines (s .roles) (s .users ++ (name ∷ [])) k 0 (getD (s .holdings ++ (newcomer ∷ [])) k nobody .roles) (s .roles)
-    ∙ ap₂ (held k) (old-at (s .users) name (packed []) k below) (old-at (s .holdings) newcomer nobody k (omega (arith, people, below)))
+    held-lines (s .roles) (s .users ++ (name ∷ [])) k 0 (getD (s .holdings ++ (new ∷ [])) k nobody .roles) (s .roles)
+    ∙ ap₂ (held k) (old-at (s .users) name (packed []) k below) (old-at (s .holdings) new nobody k (omega (arith, people, below)))
     ∙ sym (held-lines (s .roles) (s .users) k 0 (getD (s .holdings) k nobody .roles) (s .roles)))
-    (held-lines (s .roles) (s .users ++ (name ∷ [])) (length (s .users)) 0 (getD (s .holdings ++ (newcomer ∷ [])) (length (s .users)) nobody .roles) (s .roles)
+    (held-lines (s .roles) (s .users ++ (name ∷ [])) (length (s .users)) 0 (getD (s .holdings ++ (new ∷ [])) (length (s .users)) nobody .roles) (s .roles)
     ∙ ap (held (length (s .users)) (getD (s .users ++ (name ∷ [])) (length (s .users)) (packed []))) latest
     ∙ picked-none (λ (r : ℕ). bytes "has" ++ field (spelled (getD (s .users ++ (name ∷ [])) (length (s .users)) (packed []))) ++ field (spelled (nameAt (s .roles) r))) 0 (length (s .roles))) in
     naming (omega (arith, at))
     (ap₂ _++_ (ap (λ (l : List (List ℕ)). l ++ written s Block.Roles) (header-stays s (Entry.User name clearance) past (omega arith))) users
-    ∙ sym (append-assoc (headed (s .stage) ++ written s Block.Roles) (written s Block.Users) (line name newcomer)))
+    ∙ sym (append-assoc (headed (s .stage) ++ written s Block.Roles) (written s Block.Users) (line name new)))
     (has ∙ append-nil (written s Block.Has)) refl
 
 -- A role that a user did not hold.

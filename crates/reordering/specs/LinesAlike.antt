@@ -1,6 +1,6 @@
 -- A good line is like the line that is written of what it says; a has line is that line.
 use Prim.Native.Nat.{ℕ, _≤_}
-use mathlib.Core.Bool.{Bool, true, false, not, cond, _&&_, _||_, and-eq-true-iff, false≢true}
+use mathlib.Core.Bool.{Bool, true, false, not, cond, _&&_, and-eq-true-iff, false≢true}
 use mathlib.Core.List.{List, [], _∷_}
 use mathlib.Core.Path.{_≡_, refl, sym, ap, ap₂, subst, _∙_}
 use lib.Dec.{eqb}
@@ -23,7 +23,7 @@ use Rattle.showing.specs.Fields.{field}
 use Rattle.spelling.specs.TypingText.{labelText}
 use Rattle.rereading.specs.Cuts.{free, free-name}
 use Rattle.rereading.specs.Sets.{set-free}
-use Rattle.rereading.specs.Rows.{tab, label-name}
+use Rattle.rereading.specs.Rows.{tab, label-name, label-same}
 use Rattle.inscribing.specs.LineText.{lineText}
 use Rattle.reviewing.specs.Fields.{two-pieces, three-pieces, five-pieces}
 use Rattle.reordering.specs.Alike.{Each, FieldAlike, LineAlike, HasLine}
@@ -104,16 +104,6 @@ module _ (c : Counts) (roles users : List Name) where
   line-fields (w ∷ a ∷ b ∷ d ∷ e ∷ f ∷ more) formed = absurd (other-none formed)
 
 -- ---- the fields of the line that is written
-
--- a label is written again
-label-same : (label : List ℕ) → isLabel label ≡ true → labelText (sameBytes label (bytes "H")) ≡ label
-unfolding isLabel labelText
-label-same label is = go (sameBytes label (bytes "L")) (sameBytes label (bytes "H")) refl refl is
-  where
-    go : (low high : Bool) → sameBytes label (bytes "L") ≡ low → sameBytes label (bytes "H") ≡ high → (low || high) ≡ true → cond high (bytes "H") (bytes "L") ≡ label
-    go low true same other one = sym (same-equal label (bytes "H") other)
-    go true false same other one = sym (same-equal label (bytes "L") same)
-    go false false same other one = absurd (false≢true one)
 
 -- fields alike in turn
 two-alike : {word a a′ : List ℕ} → FieldAlike a a′ → Each FieldAlike (word ∷ a ∷ []) (word ∷ a′ ∷ [])

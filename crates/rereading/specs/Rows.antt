@@ -1,6 +1,6 @@
 -- The lines of a typing that is written: the header, a row and `end`, each judged as what it was written from.
 use Prim.Native.Nat.{ℕ, suc, _+_, _<_}
-use mathlib.Core.Bool.{Bool, true, false}
+use mathlib.Core.Bool.{Bool, true, false, cond, _||_, false≢true}
 use mathlib.Core.List.{List, [], _∷_, _++_, append-assoc}
 use mathlib.Core.Path.{_≡_, refl, sym, ap, _∙_}
 use borrow.Author.Tests.{le-leb, eq-eqb}
@@ -12,6 +12,7 @@ use Rattle.tables.specs.declared.Name.{Name}
 use Rattle.text.specs.Forms.{bytes, every, between, nameByte, isName, isLabel}
 use Rattle.tables.specs.Names.{placeOf}
 use Rattle.text.specs.Pieces.{split, onto, sameBytes}
+use Rattle.text.specs.PieceLaws.{same-equal}
 use Rattle.fields.specs.Fields.{placed}
 use Rattle.writing.specs.Written.{spelled}
 use Rattle.spelling.specs.TypingText.{setText, labelText}
@@ -67,6 +68,16 @@ pub label-back : (label : Bool) → sameBytes (labelText label) (bytes "H") ≡ 
 unfolding labelText sameBytes
 label-back true = refl
 label-back false = refl
+
+-- a label is written again
+pub label-same : (label : List ℕ) → isLabel label ≡ true → labelText (sameBytes label (bytes "H")) ≡ label
+unfolding isLabel labelText
+label-same label is = go (sameBytes label (bytes "L")) (sameBytes label (bytes "H")) refl refl is
+  where
+    go : (low high : Bool) → sameBytes label (bytes "L") ≡ low → sameBytes label (bytes "H") ≡ high → (low || high) ≡ true → cond high (bytes "H") (bytes "L") ≡ label
+    go low true same other one = sym (same-equal label (bytes "H") other)
+    go true false same other one = sym (same-equal label (bytes "L") same)
+    go false false same other one = absurd (false≢true one)
 
 -- ---- the header and the end
 

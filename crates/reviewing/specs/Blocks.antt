@@ -10,7 +10,7 @@ use Rattle.roles.specs.Sets.{emptySet}
 use Rattle.model.specs.declared.Assign.{Assign}
 use Rattle.model.specs.declared.Revoke.{Revoke}
 use Rattle.model.specs.declared.Person.{Person}
-use Rattle.model.specs.Policy.{noAssign, noRevoke, State, nobody, person}
+use Rattle.model.specs.Policy.{noAssign, noRevoke, State, newcomer, nobody, person, joined}
 use Rattle.tables.specs.declared.Name.{Name}
 use Rattle.tables.specs.Names.{packed, nameAt}
 use Rattle.steps.specs.PlaceLaws.{stands-at, at-listed}
@@ -58,11 +58,12 @@ module _ {s : Said} (sound : Sound s) where
       (roles-first (length (s .roles)) (omega arith))
 
   -- a user more, with a clearance and no roles
-  person-more : (count : ℕ) → count < length (s .users)
-      → take count (map without (s .holdings)) ++ (record { clearance = person (s .holdings) count .clearance; roles = emptySet } ∷ []) ≡ take (suc count) (map without (s .holdings))
-  unfolding person
+  person-more : (count : ℕ) → count < length (s .users) → joined (take count (map without (s .holdings))) (person (s .holdings) count .clearance) ≡ take (suc count) (map without (s .holdings))
+  unfolding person newcomer joined
   person-more count here =
-      ap (λ (p : Person). take count (map without (s .holdings)) ++ (p ∷ [])) (sym (List·getD-map without (s .holdings) count nobody))
+      let there = sound .holdings (person (s .holdings) count) (stands-listed nobody (s .holdings) count (omega (arith, sound .people, here))) .here in
+      let new : newcomer (person (s .holdings) count .clearance) ≡ without (person (s .holdings) count) = λ i. record { clearance = person (s .holdings) count .clearance; present = sym there i; roles = emptySet } in
+      ap (λ (p : Person). take count (map without (s .holdings)) ++ (p ∷ [])) (new ∙ sym (List·getD-map without (s .holdings) count nobody))
       ∙ sym (take-suc (map without (s .holdings)) count (without nobody) (omega (arith, length-map (s .holdings) without, sound .people, here)))
 
   users-first : (count : ℕ) → count ≤ length (s .users)

@@ -4,6 +4,8 @@ pub mod Ends
 pub mod Range
 pub mod Looking
 pub mod Trying
+pub mod Joining
 pub mod Says
+pub mod Named
 pub mod TraceVerdictExact
 pub mod Reached

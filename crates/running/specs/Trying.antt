@@ -1,14 +1,15 @@
--- A step tried: whether it is possible, and what is said after it; and the same over a ledger.
-use Prim.Native.Nat.{ℕ, _+_, _*_, _≤_, _<_}
+-- A step tried: whether it is possible, and what is said after it; over the rows of a ledger, and over what the ledger says.
+use Prim.Native.Nat.{ℕ, zero, suc, _+_, _*_, _≤_, _<_}
 use borrow.Author.Tests.{lt-ltb}
-use mathlib.Core.Bool.{Bool, true, false, cond}
+use mathlib.Core.Bool.{Bool, true, false, cond, false≢true}
 use mathlib.Core.List.{List}
 use mathlib.Core.Logic.{inl, inr}
 use mathlib.Core.Path.{_≡_, refl, sym, ap, _∙_}
+use lib.Dec.{eqb}
 use lib.ListN.{length, set}
 use native.Mathlib.Omega.{arith}
 use Rattle.model.specs.declared.Person.{Person}
-use Rattle.model.specs.Policy.{Policy, noAssign, noRevoke, State, nobody, person, withRole, withoutRole, granted, revoked}
+use Rattle.model.specs.Policy.{Policy, noAssign, noRevoke, State, nobody, person, withRole, withoutRole, granted, revoked, leaver, departed}
 use Rattle.ledgers.specs.Parts.{rowAt, stored}
 use Rattle.ledgers.specs.PartLaws.{rows-length, rows-at, rows-changed, rows-beside}
 use Rattle.ledgers.specs.Ledger.{ledgerWords, roleNames, userNames, people, assignRules, revokeRules, goalSets}
@@ -19,16 +20,98 @@ use Rattle.reading.specs.Ledger.{ledgerSays, Limited}
 use Rattle.steps.specs.declared.Step.{Step}
 use Rattle.steps.specs.Tests.{mayAssign, mayRevoke}
 use Rattle.steps.specs.Traces.{assignAt, revokeAt, possible, after}
-use Rattle.running.specs.Range.{InRange, Ranged}
+use Rattle.running.specs.Range.{InRange}
 
--- The answer is whether the step is possible; what is said then is the same but for the people: they are those after the step, or stay.
+-- ---- a step over the rows of a ledger
+
+-- Whether the actor may use the rule on the user; whether the user may leave; and the user afterwards.
+abbrev pub mayAssignIn : List ℕ → (actor rule user : ℕ) → Bool
+mayAssignIn words actor rule user = mayAssign (rowAt assignRules words rule) (rowAt people words actor) (rowAt people words user)
+
+abbrev pub assignedIn : List ℕ → (rule user : ℕ) → Person
+assignedIn words rule user = withRole (rowAt people words user) (rowAt assignRules words rule .target)
+
+abbrev pub mayRevokeIn : List ℕ → (actor rule user : ℕ) → Bool
+mayRevokeIn words actor rule user = mayRevoke (rowAt revokeRules words rule) (rowAt people words actor) (rowAt people words user)
+
+abbrev pub revokedIn : List ℕ → (rule user : ℕ) → Person
+revokedIn words rule user = withoutRole (rowAt people words user) (rowAt revokeRules words rule .target)
+
+abbrev pub mayLeaveIn : List ℕ → ℕ → Bool
+mayLeaveIn words user = rowAt people words user .present
+
+abbrev pub leftIn : List ℕ → ℕ → Person
+leftIn words user = leaver (rowAt people words user)
+
+-- The answer is the test, and where it holds a person is stored at a place.
+pub record StoredIf (test : Bool) (words : List ℕ) (place : ℕ) (p : Person) (answer : Bool) (left : List ℕ) : Type 0 where
+  pub answered : answer ≡ test
+  pub leaves : left ≡ cond test (stored people words place p) words
+
+-- where it fails, and where it holds
+pub not-stored : {test : Bool} {words : List ℕ} (place : ℕ) (p : Person) → test ≡ false → StoredIf test words place p false words
+not-stored place p not = record { answered = sym not; leaves = rw not }
+
+pub stored-so : {test : Bool} {words : List ℕ} (place : ℕ) {p q : Person} {left : List ℕ} → test ≡ true → left ≡ stored people words place q → q ≡ p → StoredIf test words place p true left
+stored-so {words = words} place is given same = record { answered = sym is; leaves = given ∙ ap (stored people words place) same ∙ sym (rw is) }
+
+-- ---- a step over what is said
+
+-- What a step makes of those who are here: who joins comes with a name, and is entered with it.
+unfoldable pub changed : Policy → State → Step → State
+changed P σ (Step.Assign actor rule user) = after P σ (Step.Assign actor rule user)
+changed P σ (Step.Revoke actor rule user) = after P σ (Step.Revoke actor rule user)
+changed P σ (Step.Join user clearance) = σ
+changed P σ (Step.Leave user) = after P σ (Step.Leave user)
+
+-- The answer is whether the step is possible; what is said then is the same but for the people: they are those whom it changed, or stay.
 pub record Tried (s : Said) (step : Step) (answer : Bool) (left : Said) : Type 0 where
   pub answered : answer ≡ possible (policyOf s) (s .holdings) step
-  pub leaves : left ≡ sayHoldings (cond answer (after (policyOf s) (s .holdings) step) (s .holdings)) s
+  pub leaves : left ≡ sayHoldings (cond answer (changed (policyOf s) (s .holdings) step) (s .holdings)) s
 
--- The same of a ledger's words, by any counts that are within the limits and have the step in range.
-pub record TriedOver (words : List ℕ) (step : Step) (answer : Bool) (left : List ℕ) : Type 0 where
-  pub tried : (c : Counts) → Limited c → Ranged (c .assigns) (c .revokes) (c .users) step → Tried (ledgerSays words c) step answer (ledgerSays left c)
+-- The number of the first step that is none, where this one has a number: the one found before, where there is one.
+unfoldable pub nextBroken : (broken number : ℕ) (is-possible : Bool) → ℕ
+nextBroken zero number is-possible = cond is-possible 0 number
+nextBroken (suc before) number is-possible = suc before
+
+-- The step with a number is tried, unless a step before it was none.
+pub record TriedNext (s : Said) (broken number : ℕ) (step : Step) (answer : ℕ) (left : Said) : Type 0 where
+  pub answered : answer ≡ nextBroken broken number (possible (policyOf s) (s .holdings) step)
+  -- the people that are left, which count only where every step so far is one
+  pub people : State
+  pub leaves : left ≡ sayHoldings people s
+  pub moved : broken ≡ 0 → possible (policyOf s) (s .holdings) step ≡ true → people ≡ changed (policyOf s) (s .holdings) step
+
+-- a step before it was none; it is one; it is none
+module _ {s : Said} {broken : ℕ} (number : ℕ) (step : Step) where
+  pub next-past : (broken ≡ 0 → ⊥) → TriedNext s broken number step broken s
+  unfolding nextBroken
+  next-past some = record { answered = go broken some; people = s .holdings; leaves = refl; moved = λ none is. absurd (some none) }
+    where
+      go : (n : ℕ) → (n ≡ 0 → ⊥) → n ≡ nextBroken n number (possible (policyOf s) (s .holdings) step)
+      go zero positive = absurd (positive refl)
+      go (suc before) positive = refl
+
+  module _ {may : Bool} {left : Said} (none : broken ≡ 0) (tried : Tried s step may left) where
+    answered-as : {b : Bool} → may ≡ b → cond b 0 number ≡ nextBroken broken number (possible (policyOf s) (s .holdings) step)
+    unfolding nextBroken
+    answered-as is = ap (λ (b : Bool). cond b 0 number) (sym is ∙ tried .answered) ∙ sym (ap (λ (n : ℕ). nextBroken n number (possible (policyOf s) (s .holdings) step)) none)
+
+    pub next-goes : may ≡ true → TriedNext s broken number step 0 left
+    next-goes is = record {
+      answered = answered-as is;
+      people = changed (policyOf s) (s .holdings) step;
+      leaves = tried .leaves ∙ ap (λ (b : Bool). sayHoldings (cond b (changed (policyOf s) (s .holdings) step) (s .holdings)) s) is;
+      moved = λ z p. refl;
+    }
+
+    pub next-breaks : may ≡ false → TriedNext s broken number step number left
+    next-breaks is = record {
+      answered = answered-as is;
+      people = s .holdings;
+      leaves = tried .leaves ∙ ap (λ (b : Bool). sayHoldings (cond b (changed (policyOf s) (s .holdings) step) (s .holdings)) s) is;
+      moved = λ z p. absurd (false≢true (sym is ∙ tried .answered ∙ p));
+    }
 
 -- the policy and the state that a ledger says by its counts
 abbrev policyIn : List ℕ → Counts → Policy
@@ -53,58 +136,65 @@ person-stored words room c limited place p inside =
       goals = rows-beside goalSets goals-faithful words at (people .row p) (c .goals) (inl (omega arith)) i;
     }
 
-module _ (words : List ℕ) where
-  -- a step that is not possible
-  tried-off : (c : Counts) (step : Step) → possible (policyIn words c) (stateIn words c) step ≡ false → Tried (ledgerSays words c) step false (ledgerSays words c)
-  tried-off c step not = record { answered = sym not; leaves = refl }
-
-  -- one that is, and changes the person at a place
-  tried-on : ledgerWords ≤ length words → (c : Counts) → Limited c → (step : Step) (place : ℕ) (p : Person) → place < c .users → possible (policyIn words c) (stateIn words c) step ≡ true
-      → after (policyIn words c) (stateIn words c) step ≡ set (stateIn words c) place p → Tried (ledgerSays words c) step true (ledgerSays (stored people words place p) c)
-  tried-on room c limited step place p inside is changes = record {
-    answered = sym is;
-    leaves = person-stored words room c limited place p inside ∙ sym (ap (λ (σ : State). sayHoldings σ (ledgerSays words c)) changes);
+module _ (words : List ℕ) (room : ledgerWords ≤ length words) (c : Counts) (limited : Limited c) where
+  -- a step whose test is that of the rows, and which changes the person at a place
+  tried-by : (step : Step) {test answer : Bool} {left : List ℕ} (place : ℕ) (p : Person) → place < c .users → possible (policyIn words c) (stateIn words c) step ≡ test
+      → changed (policyIn words c) (stateIn words c) step ≡ set (stateIn words c) place p → StoredIf test words place p answer left → Tried (ledgerSays words c) step answer (ledgerSays left c)
+  tried-by step {test} {answer} place p inside is changes kept = record {
+    answered = kept .answered ∙ sym is;
+    leaves = ap (λ (l : List ℕ). ledgerSays l c) (kept .leaves) ∙ go test ∙ ap (λ (b : Bool). sayHoldings (cond b (changed (policyIn words c) (stateIn words c) step) (stateIn words c)) (ledgerSays words c)) (sym (kept .answered));
   }
+    where
+      go : (b : Bool) → ledgerSays (cond b (stored people words place p) words) c ≡ sayHoldings (cond b (changed (policyIn words c) (stateIn words c) step) (stateIn words c)) (ledgerSays words c)
+      go true = person-stored words room c limited place p inside ∙ sym (ap (λ (σ : State). sayHoldings σ (ledgerSays words c)) changes)
+      go false = refl
 
-  module _ (actor rule user : ℕ) where
-    -- ---- an assign step, by the rows of its rule, its actor and its user
-
-    assign-may : (c : Counts) → InRange (c .assigns) (c .users) actor rule user
-        → possible (policyIn words c) (stateIn words c) (Step.Assign actor rule user) ≡ mayAssign (rowAt assignRules words rule) (rowAt people words actor) (rowAt people words user)
+  module _ {actor rule user : ℕ} where
+    assign-may : InRange (c .assigns) (c .users) actor rule user → possible (policyIn words c) (stateIn words c) (Step.Assign actor rule user) ≡ mayAssignIn words actor rule user
     unfolding ledgerSays policyOf possible assignAt person
-    assign-may c r =
+    assign-may r =
         rw (rows-length assignRules words (c .assigns), rows-length people words (c .users), lt-ltb rule (c .assigns) (r .ruled), lt-ltb actor (c .users) (r .acts), lt-ltb user (c .users) (r .used))
         (rw (rows-at assignRules words (c .assigns) rule noAssign (r .ruled), rows-at people words (c .users) actor nobody (r .acts), rows-at people words (c .users) user nobody (r .used)))
 
-    assign-after : (c : Counts) → InRange (c .assigns) (c .users) actor rule user
-        → after (policyIn words c) (stateIn words c) (Step.Assign actor rule user) ≡ set (stateIn words c) user (withRole (rowAt people words user) (rowAt assignRules words rule .target))
-    unfolding ledgerSays policyOf after granted assignAt person
-    assign-after c r = rw (rows-at assignRules words (c .assigns) rule noAssign (r .ruled), rows-at people words (c .users) user nobody (r .used))
+    assign-after : InRange (c .assigns) (c .users) actor rule user → changed (policyIn words c) (stateIn words c) (Step.Assign actor rule user) ≡ set (stateIn words c) user (assignedIn words rule user)
+    unfolding ledgerSays policyOf changed after granted assignAt person
+    assign-after r = rw (rows-at assignRules words (c .assigns) rule noAssign (r .ruled), rows-at people words (c .users) user nobody (r .used))
 
-    pub assign-off : mayAssign (rowAt assignRules words rule) (rowAt people words actor) (rowAt people words user) ≡ false → TriedOver words (Step.Assign actor rule user) false words
-    assign-off not = record { tried = λ c limited r. tried-off c (Step.Assign actor rule user) (assign-may c r ∙ not) }
+    pub assign-tried : InRange (c .assigns) (c .users) actor rule user → {answer : Bool} {left : List ℕ} → StoredIf (mayAssignIn words actor rule user) words user (assignedIn words rule user) answer left
+        → Tried (ledgerSays words c) (Step.Assign actor rule user) answer (ledgerSays left c)
+    assign-tried r kept = tried-by (Step.Assign actor rule user) user (assignedIn words rule user) (r .used) (assign-may r) (assign-after r) kept
 
-    pub assign-on : ledgerWords ≤ length words → mayAssign (rowAt assignRules words rule) (rowAt people words actor) (rowAt people words user) ≡ true
-        → TriedOver words (Step.Assign actor rule user) true (stored people words user (withRole (rowAt people words user) (rowAt assignRules words rule .target)))
-    assign-on room is = record { tried = λ c limited r. tried-on room c limited (Step.Assign actor rule user) user _ (r .used) (assign-may c r ∙ is) (assign-after c r) }
-
-    -- ---- a revoke step
-
-    revoke-may : (c : Counts) → InRange (c .revokes) (c .users) actor rule user
-        → possible (policyIn words c) (stateIn words c) (Step.Revoke actor rule user) ≡ mayRevoke (rowAt revokeRules words rule) (rowAt people words actor) (rowAt people words user)
+    revoke-may : InRange (c .revokes) (c .users) actor rule user → possible (policyIn words c) (stateIn words c) (Step.Revoke actor rule user) ≡ mayRevokeIn words actor rule user
     unfolding ledgerSays policyOf possible revokeAt person
-    revoke-may c r =
+    revoke-may r =
         rw (rows-length revokeRules words (c .revokes), rows-length people words (c .users), lt-ltb rule (c .revokes) (r .ruled), lt-ltb actor (c .users) (r .acts), lt-ltb user (c .users) (r .used))
         (rw (rows-at revokeRules words (c .revokes) rule noRevoke (r .ruled), rows-at people words (c .users) actor nobody (r .acts), rows-at people words (c .users) user nobody (r .used)))
 
-    revoke-after : (c : Counts) → InRange (c .revokes) (c .users) actor rule user
-        → after (policyIn words c) (stateIn words c) (Step.Revoke actor rule user) ≡ set (stateIn words c) user (withoutRole (rowAt people words user) (rowAt revokeRules words rule .target))
-    unfolding ledgerSays policyOf after revoked revokeAt person
-    revoke-after c r = rw (rows-at revokeRules words (c .revokes) rule noRevoke (r .ruled), rows-at people words (c .users) user nobody (r .used))
+    revoke-after : InRange (c .revokes) (c .users) actor rule user → changed (policyIn words c) (stateIn words c) (Step.Revoke actor rule user) ≡ set (stateIn words c) user (revokedIn words rule user)
+    unfolding ledgerSays policyOf changed after revoked revokeAt person
+    revoke-after r = rw (rows-at revokeRules words (c .revokes) rule noRevoke (r .ruled), rows-at people words (c .users) user nobody (r .used))
 
-    pub revoke-off : mayRevoke (rowAt revokeRules words rule) (rowAt people words actor) (rowAt people words user) ≡ false → TriedOver words (Step.Revoke actor rule user) false words
-    revoke-off not = record { tried = λ c limited r. tried-off c (Step.Revoke actor rule user) (revoke-may c r ∙ not) }
+    pub revoke-tried : InRange (c .revokes) (c .users) actor rule user → {answer : Bool} {left : List ℕ} → StoredIf (mayRevokeIn words actor rule user) words user (revokedIn words rule user) answer left
+        → Tried (ledgerSays words c) (Step.Revoke actor rule user) answer (ledgerSays left c)
+    revoke-tried r kept = tried-by (Step.Revoke actor rule user) user (revokedIn words rule user) (r .used) (revoke-may r) (revoke-after r) kept
 
-    pub revoke-on : ledgerWords ≤ length words → mayRevoke (rowAt revokeRules words rule) (rowAt people words actor) (rowAt people words user) ≡ true
-        → TriedOver words (Step.Revoke actor rule user) true (stored people words user (withoutRole (rowAt people words user) (rowAt revokeRules words rule .target)))
-    revoke-on room is = record { tried = λ c limited r. tried-on room c limited (Step.Revoke actor rule user) user _ (r .used) (revoke-may c r ∙ is) (revoke-after c r) }
+  module _ {user : ℕ} where
+    leave-may : user < c .users → possible (policyIn words c) (stateIn words c) (Step.Leave user) ≡ mayLeaveIn words user
+    unfolding ledgerSays policyOf possible person
+    leave-may here = rw (rows-length people words (c .users), lt-ltb user (c .users) here) (rw (rows-at people words (c .users) user nobody here))
+
+    leave-after : user < c .users → changed (policyIn words c) (stateIn words c) (Step.Leave user) ≡ set (stateIn words c) user (leftIn words user)
+    unfolding ledgerSays policyOf changed after departed person
+    leave-after here = rw (rows-at people words (c .users) user nobody here)
+
+    pub leave-tried : user < c .users → {answer : Bool} {left : List ℕ} → StoredIf (mayLeaveIn words user) words user (leftIn words user) answer left → Tried (ledgerSays words c) (Step.Leave user) answer (ledgerSays left c)
+    leave-tried here kept = tried-by (Step.Leave user) user (leftIn words user) here (leave-may here) (leave-after here) kept
+
+    -- nobody who is here is changed by a join
+    pub join-tried : (clearance : Bool) → Tried (ledgerSays words c) (Step.Join user clearance) (eqb user (c .users)) (ledgerSays words c)
+    unfolding ledgerSays possible changed
+    join-tried clearance = record { answered = sym (ap (eqb user) (rows-length people words (c .users))); leaves = go (eqb user (c .users)) }
+      where
+        go : (b : Bool) → ledgerSays words c ≡ sayHoldings (cond b (stateIn words c) (stateIn words c)) (ledgerSays words c)
+        go true = refl
+        go false = refl

@@ -1,4 +1,4 @@
--- The verdict on a trace, as document 01's table of verdicts has it.
+-- The verdict on a trace, as document 01's table of verdicts has it, and document 02, CR 2.
 use Prim.Native.Nat.{ℕ, zero, suc, _-_}
 use mathlib.Core.Bool.{cond}
 use mathlib.Core.List.{List}
@@ -16,8 +16,8 @@ use Rattle.steps.specs.Traces.{Ran, broken, ran, runOf}
 use Rattle.traces.specs.TraceText.{Traced, readTrace}
 use Rattle.running.specs.declared.TraceVerdict.{TraceVerdict}
 
--- All steps are good: SHORT where nobody is found in the last state, and else ATTACKED, with the user's place from 0, the user's name
--- and the goal's number from 1.
+-- All steps are good: SHORT where nobody is found in the last state, and else ATTACKED, with the user's place from 0, the name that stands
+-- there among those that are known, and the goal's number from 1.
 unfoldable pub lastVerdict : (steps : ℕ) → List Name → Found → TraceVerdict
 lastVerdict steps names found = cond (eqb (found .user) 0) (TraceVerdict.Short steps) (TraceVerdict.Attacked steps (found .user - 1) (nameAt names (found .user - 1)) (found .goal))
 
@@ -29,7 +29,7 @@ ranVerdict steps names goals (ran last) = lastVerdict steps names (firstBad last
 -- The text has been read: REFUSED, or its steps are tried from the initial holdings.
 unfoldable pub readVerdict : Said → Reading Traced → TraceVerdict
 readVerdict s (refused number line) = TraceVerdict.Refused number line
-readVerdict s (read t) = ranVerdict (length (t .steps)) (s .users) (s .goals) (runOf (policyOf s) (s .holdings) (t .steps))
+readVerdict s (read t) = ranVerdict (length (t .steps)) (t .names) (s .goals) (runOf (policyOf s) (s .holdings) (t .steps))
 
 -- The verdict on a trace text over what a policy text says.
 unfoldable pub traceVerdict : Said → List ℕ → TraceVerdict

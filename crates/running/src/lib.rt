@@ -8,8 +8,9 @@ ghost use Rattle.reading.specs.Ledger.{ledgerSays, Limited};
 ghost use Rattle.running.specs.Verdict.{endVerdict, traceVerdict};
 use ledgers::USERS;
 use lines::Counts;
+use state::enter_new;
 use state::first_bad;
-use state::try_step;
+use state::try_next;
 use steps::Found;
 use tables::Name;
 use traces::TraceLine;
@@ -31,7 +32,7 @@ pub enum TraceVerdict {
 }
 
 // The verdict on a trace that was read: the first step that is not one, 0 where there is none, then who was found in the last state,
-// by the names of the policy's users.
+// by the names that are known.
 fn ending(broken: usize, steps: usize, found: Found, users: &[u64], count: usize) -> TraceVerdict
     requires { ⌜ 4 * count ≤ length (now users) ⌝ }
     ensures { λ r. ⌜ r ≡ endVerdict broken steps (rows count (now (users .entry))) found ⌝ }
@@ -47,7 +48,8 @@ fn ending(broken: usize, steps: usize, found: Found, users: &[u64], count: usize
     TraceVerdict::Attacked(steps, user, name, found.goal)
 }
 
-// The verdict on a trace text over the policy of a ledger, whose people it changes step by step. The first bad line decides a refusal; after the first step that is not one, lines are read on.
+// The verdict on a trace text over the policy of a ledger, whose people it changes step by step, and to whose users it adds who joins. The
+// first bad line decides a refusal; after the first step that is not one, lines are read on.
 pub fn run_trace(text: &[u8], ledger: &mut [u64], c: Counts) -> TraceVerdict
     requires { ⌜ (ledgerWords ≤ length (now ledger)) × Limited c ⌝ }
     ensures { λ r. ⌜ r ≡ traceVerdict (ledgerSays (now (ledger .entry)) c) (now (text .entry)) ⌝ }
@@ -59,6 +61,7 @@ pub fn run_trace(text: &[u8], ledger: &mut [u64], c: Counts) -> TraceVerdict
     if !text::begins_with(text, b"trace\t1\n") {
         return TraceVerdict::Refused(15, 1);
     }
+    let mut known = c;
     let mut steps = 0;
     let mut broken = 0;
     let mut at = 8;
@@ -76,17 +79,16 @@ pub fn run_trace(text: &[u8], ledger: &mut [u64], c: Counts) -> TraceVerdict
             if at < end {
                 return TraceVerdict::Refused(15, number);
             }
-            let found = first_bad(ledger, c.users, c.goals);
-            return ending(broken, steps, found, &ledger[USERS..], c.users);
+            let found = first_bad(ledger, known.users, known.goals);
+            return ending(broken, steps, found, &ledger[USERS..], known.users);
         }
-        let answer = read_line(line, &ledger[USERS..], c);
-        let TraceLine::Step(step) = answer else {
+        let answer = read_line(line, &ledger[USERS..], known);
+        let TraceLine::Step(step, name) = answer else {
             return TraceVerdict::Refused(code(answer), here);
         };
         steps += 1;
-        if broken == 0 && !try_step(ledger, step) {
-            broken = steps;
-        }
+        broken = try_next(ledger, known, broken, steps, step);
+        known = enter_new(ledger, known, step, name);
     }
     TraceVerdict::Refused(15, number)
 }

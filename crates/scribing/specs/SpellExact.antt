@@ -1,5 +1,5 @@
 -- Spell gives each answer, and leaves in the buffer what it leaves, exactly when its rule says so.
-use Prim.Native.Nat.{ℕ, _≤_, _<_}
+use Prim.Native.Nat.{ℕ}
 use mathlib.Core.Bool.{Bool, true, false, cond, true≢false}
 use mathlib.Core.List.{List}
 use mathlib.Core.Logic.{_↔_}

@@ -1,10 +1,10 @@
 -- Name fields and set fields by their bytes: packing loses nothing.
 use Prim.Native.Nat.{ℕ, suc, _≤_, _<_}
 use mathlib.Core.Bool.{Bool, true, false, cond, _&&_, _||_, and-eq-true-iff, false≢true}
-use mathlib.Core.List.{List, [], _∷_, map, List·Memᴰ as Listed, List·Memᴰ·head as first, List·Memᴰ·tail as next}
+use mathlib.Core.List.{List, [], _∷_, _++_, map, List·Memᴰ as Listed, List·Memᴰ·head as first, List·Memᴰ·tail as next}
 use mathlib.Core.Logic.{_↔_, _⊎_, inl, inr}
 use mathlib.Core.Path.{_≡_, refl, sym, ap, ap₂, subst, subst⁻¹, _∙_}
-use borrow.Author.Tests.{eq-eqb, ltb-true, lt-ltb}
+use borrow.Author.Tests.{eq-eqb, ltb-true, ltb-false, lt-ltb}
 use lib.ListN.{length, length-map}
 use native.Mathlib.Omega.{arith}
 use Rattle.roles.specs.declared.RoleSet.{RoleSet}
@@ -13,10 +13,12 @@ use Rattle.roles.specs.Members.{_∈_}
 use Rattle.roles.specs.MemberLaws.{with-cases, with-new, empty-none}
 use Rattle.tables.specs.declared.Name.{Name}
 use Rattle.tables.specs.Names.{packed, sameName, placeOf}
-use Rattle.tables.specs.NameLaws.{packed-one-to-one, place-one-to-one}
+use Rattle.tables.specs.NameLaws.{packed-one-to-one, place-one-to-one, place-most}
 use Rattle.text.specs.Forms.{every, isName, namesOf}
 use Rattle.text.specs.Pieces.{sameBytes, among, repeated}
+use Rattle.text.specs.FormLaws.{every-more}
 use Rattle.text.specs.PieceLaws.{same-equal, equal-same, neither}
+use Rattle.text.specs.Repeats.{still-single}
 use Rattle.fields.specs.Fields.{placed, isDeclared, allDeclared, rolesFrom, rolesOf}
 use Rattle.steps.specs.Places.{At, here, there}
 use Rattle.steps.specs.PlaceLaws.{at-inside, at-listed, listed-at}
@@ -59,6 +61,16 @@ listed-among {s} (next {x} {xs} m) = go (sameBytes s x) (listed-among m)
     go : (b : Bool) → among s xs ≡ true → (b || among s xs) ≡ true
     go true below = refl
     go false below = below
+
+-- what is found among them is listed
+among-listed : {s : List ℕ} (names : List (List ℕ)) → among s names ≡ true → Listed s names
+unfolding among
+among-listed [] found = absurd (false≢true found)
+among-listed {s} (t ∷ rest) found = go (sameBytes s t) refl found (among-listed rest)
+  where
+    go : (b : Bool) → sameBytes s t ≡ b → (b || among s rest) ≡ true → (among s rest ≡ true → Listed s rest) → Listed s (t ∷ rest)
+    go true same e below = first (same-equal s t same)
+    go false same e below = next (below e)
 
 -- the place that is found, where no name stands twice
 place-found : {s : List ℕ} {names : List (List ℕ)} {place : ℕ} → every isName names ≡ true → repeated names ≡ false → At s names place → placeOf (map packed names) (packed s) ≡ place
@@ -112,6 +124,35 @@ module _ {names : List (List ℕ)} (all : Names names) where
     λ known. at-listed (declared-at form known),
     λ listed. let at = placed-exact form (listed-at listed .0) .1 (listed-at listed .1) in rw length-map (lt-ltb (placed (map packed names) field) (length names) (omega (arith, at .0, at .1))),
   )
+
+  -- A name that is not declared is found past all others.
+  pub undeclared-last : (field : List ℕ) → isDeclared (map packed names) field ≡ false → placed (map packed names) field ≡ length names
+  unfolding isDeclared placed
+  undeclared-last field new =
+      omega (arith, place-most (map packed names) (packed field), ltb-false (placed (map packed names) field) (length (map packed names)) new, length-map names packed)
+
+  -- It is not declared exactly when its bytes are those of no name,
+  pub undeclared-exact : {field : List ℕ} → isName field ≡ true → isDeclared (map packed names) field ≡ false ↔ (Listed field names → ⊥)
+  undeclared-exact {field} form = (
+    λ new listed. false≢true (sym new ∙ declared-exact form .1 listed),
+    λ none. go (isDeclared (map packed names) field) refl none,
+  )
+    where
+      go : (b : Bool) → isDeclared (map packed names) field ≡ b → (Listed field names → ⊥) → b ≡ false
+      go true known none = absurd (none (declared-exact form .0 known))
+      go false known none = refl
+
+  -- and names with it are names, none of them twice.
+  pub names-more : {field : List ℕ} → isName field ≡ true → (Listed field names → ⊥) → Names (names ++ (field ∷ []))
+  unfolding every
+  names-more {field} form none = record {
+    forms = every-more isName names (field ∷ []) ∙ rw (all .forms, form);
+    single = still-single names field (all .single) (go (among field names) refl);
+  }
+    where
+      go : (b : Bool) → among field names ≡ b → b ≡ false
+      go true found = absurd (none (among-listed names found))
+      go false found = refl
 
 -- ---- a set field
 

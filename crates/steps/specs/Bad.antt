@@ -1,5 +1,6 @@
--- The first L user who holds all roles of a goal, and that user's lowest goal.
+-- The first present L user who holds all roles of a goal, and that user's lowest goal.
 use Prim.Native.Nat.{ℕ, suc, _<_}
+use mathlib.Core.Bool.{true}
 use mathlib.Core.List.{List, List·Memᴰ as Listed}
 use mathlib.Core.Path.{_≡_}
 use lib.ListN.{length, getD}
@@ -20,26 +21,27 @@ pub record Lowest (goals : List RoleSet) (roles : RoleSet) (goal : ℕ) : Type 0
   pub whole : Within (goalAt goals goal) roles
   pub lower : (other : ℕ) → other < goal → Within (goalAt goals other) roles → ⊥
 
--- An L person holds all roles of some goal.
+-- A present L person holds all roles of some goal.
 pub record HoldsGoal (goals : List RoleSet) (p : Person) : Type 0 where
+  pub present : p .present ≡ true
   pub low : p .clearance ≡ L
   pub goal : RoleSet
   pub listed : Listed goal goals
   pub whole : Within goal (p .roles)
 
--- The first L user in order who holds all roles of a goal, with that user's lowest goal, by numbers from 1.
+-- The first present L user in order who holds all roles of a goal, with that user's lowest goal, by numbers from 1.
 pub record FirstBad (goals : List RoleSet) (σ : State) (found : Found) : Type 0 where
   -- the user's place and the goal's
   pub user : ℕ
   pub goal : ℕ
   pub user-number : found .user ≡ suc user
   pub goal-number : found .goal ≡ suc goal
-  -- the user is L and holds all roles of the goal
+  -- the user is present and L and holds all roles of the goal
   pub present : Present σ user
   pub low : person σ user .clearance ≡ L
   pub inside : goal < length goals
   pub holds : HoldsAll σ user (goalAt goals goal)
-  -- no earlier user is L and holds all roles of some goal
+  -- no earlier user is present and L and holds all roles of some goal
   pub earlier : (other : ℕ) → other < user → HoldsGoal goals (person σ other) → ⊥
   -- the user does not hold all roles of any lower goal
   pub lower : (other : ℕ) → other < goal → HoldsAll σ user (goalAt goals other) → ⊥

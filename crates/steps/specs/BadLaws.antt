@@ -65,16 +65,17 @@ module _ {goals : List RoleSet} (sized : (goal : RoleSet) → Listed goal goals 
     λ none. first-none (includes roles) emptySet goals .1 (record { fails = λ place lt. refuted _ .1 (λ e. none _ (at-listed (stands-at emptySet goals place lt)) (includes-within _ roles e)) }),
   )
 
-  -- A person's own goal has a number exactly when the person is L and that goal is the lowest.
-  pub own-exact : (p : Person) (goal : ℕ) → ownGoal goals p ≡ suc goal ↔ ((p .clearance ≡ L) × Lowest goals (p .roles) goal)
+  -- A person's own goal has a number exactly when the person is present and L and that goal is the lowest.
+  pub own-exact : (p : Person) (goal : ℕ) → ownGoal goals p ≡ suc goal ↔ ((p .present ≡ true) × (p .clearance ≡ L) × Lowest goals (p .roles) goal)
   unfolding ownGoal
-  own-exact p goal = (go (p .clearance) refl, λ (low, lowest). rw low (lowest-exact (p .roles) goal .1 lowest))
+  own-exact p goal = (go (p .present) (p .clearance) refl refl, λ (here, low, lowest). rw (here, low) (lowest-exact (p .roles) goal .1 lowest))
     where
-      go : (b : Bool) → p .clearance ≡ b → ownGoal goals p ≡ suc goal → (p .clearance ≡ L) × Lowest goals (p .roles) goal
-      go true high e = absurd (omega (arith, rw high at e))
-      go false low e = (low, lowest-exact (p .roles) goal .0 (rw low at e))
+      go : (b d : Bool) → p .present ≡ b → p .clearance ≡ d → ownGoal goals p ≡ suc goal → (p .present ≡ true) × (p .clearance ≡ L) × Lowest goals (p .roles) goal
+      go false d gone at e = absurd (omega (arith, rw gone at e))
+      go true true here high e = absurd (omega (arith, rw (here, high) at e))
+      go true false here low e = (here, low, lowest-exact (p .roles) goal .0 (rw (here, low) at e))
 
-  -- A person is bad exactly when the person is L and holds all roles of some goal.
+  -- A person is bad exactly when the person is present and L and holds all roles of some goal.
   pub person-bad : (p : Person) → badPerson goals p ≡ true ↔ HoldsGoal goals p
   unfolding ownGoal badPerson
   person-bad p = (λ e. told (ownGoal goals p) refl (ltb-true 0 (ownGoal goals p) e), tests)
@@ -82,13 +83,13 @@ module _ {goals : List RoleSet} (sized : (goal : RoleSet) → Listed goal goals 
       told : (n : ℕ) → ownGoal goals p ≡ n → 0 < n → HoldsGoal goals p
       told zero e positive = absurd (omega arith)
       told (suc goal) e positive =
-          let (low, lowest) = own-exact p goal .0 e in
-          record { low = low; goal = goalAt goals goal; listed = goal-listed goals goal (lowest .inside); whole = lowest .whole }
+          let (here, low, lowest) = own-exact p goal .0 e in
+          record { present = here; low = low; goal = goalAt goals goal; listed = goal-listed goals goal (lowest .inside); whole = lowest .whole }
 
       tests : HoldsGoal goals p → badPerson goals p ≡ true
       tests holds =
           let some : lowestGoal goals (p .roles) ≡ 0 → ⊥ = λ e. lowest-none (p .roles) .0 e (holds .goal) (holds .listed) (holds .whole) in
-          lt-ltb 0 (ownGoal goals p) (rw (holds .low) (omega (arith, some)))
+          lt-ltb 0 (ownGoal goals p) (rw (holds .present, holds .low) (omega (arith, some)))
 
   -- ---- a state
 
@@ -104,13 +105,13 @@ module _ {goals : List RoleSet} (sized : (goal : RoleSet) → Listed goal goals 
         go : (n : ℕ) → ownGoal goals (person σ user) ≡ n → 0 < n → FirstBad goals σ (firstBad σ goals)
         go zero e positive = absurd (omega arith)
         go (suc goal) e positive =
-            let (low, lowest) = own-exact (person σ user) goal .0 e in
+            let (here, low, lowest) = own-exact (person σ user) goal .0 e in
             record {
               user = user;
               goal = goal;
               user-number = number;
               goal-number = ap (goalOf σ goals) number ∙ e;
-              present = record { listed = found .inside };
+              present = record { listed = found .inside; here = here };
               low = low;
               inside = lowest .inside;
               holds = record { all = lowest .whole };
@@ -126,12 +127,12 @@ module _ {goals : List RoleSet} (sized : (goal : RoleSet) → Listed goal goals 
         told : first (badPerson goals) σ ≡ 0 → Bad goals σ → ⊥
         told e bad =
             refuted _ .0 (first-none (badPerson goals) nobody σ .0 e .fails (bad .user) (bad .present .listed))
-            (person-bad (person σ (bad .user)) .1 (record { low = bad .low; goal = bad .goal; listed = bad .listed; whole = bad .holds .all }))
+            (person-bad (person σ (bad .user)) .1 (record { present = bad .present .here; low = bad .low; goal = bad .goal; listed = bad .listed; whole = bad .holds .all }))
 
         tests : (Bad goals σ → ⊥) → ((place : ℕ) × Earliest (badPerson goals) nobody σ place) ⊎ Nowhere (badPerson goals) nobody σ → first (badPerson goals) σ ≡ 0
         tests none (inl (user, found)) =
             let holds = person-bad (person σ user) .0 (found .passes) in
-            absurd (none (record { user = user; present = record { listed = found .inside }; low = holds .low; goal = holds .goal; listed = holds .listed; holds = record { all = holds .whole } }))
+            absurd (none (record { user = user; present = record { listed = found .inside; here = holds .present }; low = holds .low; goal = holds .goal; listed = holds .listed; holds = record { all = holds .whole } }))
         tests none (inr nowhere) = first-none (badPerson goals) nobody σ .1 nowhere
 
     -- Otherwise it is the first user, with that user's lowest goal;
@@ -152,12 +153,12 @@ module _ {goals : List RoleSet} (sized : (goal : RoleSet) → Listed goal goals 
         lowest = record { inside = answer .inside; whole = answer .holds .all; lower = λ other lt whole. answer .lower other lt (record { all = whole }) }
 
         own : ownGoal goals (person σ (answer .user)) ≡ suc (answer .goal)
-        own = own-exact (person σ (answer .user)) (answer .goal) .1 (answer .low, lowest)
+        own = own-exact (person σ (answer .user)) (answer .goal) .1 (answer .present .here, answer .low, lowest)
 
         number : first (badPerson goals) σ ≡ suc (answer .user)
         number = first-some (badPerson goals) nobody σ (answer .user) .1 (record {
           inside = answer .present .listed;
-          passes = person-bad (person σ (answer .user)) .1 (record { low = answer .low; goal = goalAt goals (answer .goal); listed = goal-listed goals (answer .goal) (answer .inside); whole = answer .holds .all });
+          passes = person-bad (person σ (answer .user)) .1 (record { present = answer .present .here; low = answer .low; goal = goalAt goals (answer .goal); listed = goal-listed goals (answer .goal) (answer .inside); whole = answer .holds .all });
           earlier = λ other lt. refuted _ .1 (λ e. answer .earlier other lt (person-bad (person σ other) .0 e));
         })
 

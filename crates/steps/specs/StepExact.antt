@@ -1,6 +1,6 @@
 -- A step is possible exactly when its rule can be used so; a trace is broken at its first step that is not possible.
 use Prim.Native.Nat.{ℕ, zero, suc, _<_}
-use borrow.Author.Tests.{ltb-true, lt-ltb}
+use borrow.Author.Tests.{ltb-true, lt-ltb, eqb-true, eq-eqb}
 use mathlib.Core.Bool.{Bool, true, false, not, _&&_}
 use mathlib.Core.List.{List, [], _∷_, _++_, append-assoc, List·Memᴰ as Listed, List·Memᴰ·head as foremost, List·Memᴰ·tail as further}
 use mathlib.Core.Logic.{_↔_}
@@ -22,10 +22,13 @@ use Rattle.steps.specs.Runs.{broken-same, broken-ran, later-broken, run-
 
 -- ---- a step
 
+below-exact : (n limit : ℕ) → ltb n limit ≡ true ↔ n < limit
+below-exact n limit = (ltb-true n limit, lt-ltb n limit)
+
 module _ (σ : State) (user : ℕ) where
   -- each test of a step is exact
-  present-exact : ltb user (length σ) ≡ true ↔ Present σ user
-  present-exact = (λ e. record { listed = ltb-true user (length σ) e }, λ here. lt-ltb user (length σ) (here .listed))
+  here-exact : person σ user .present ≡ true ↔ person σ user .present ≡ true
+  here-exact = (λ e. e, λ e. e)
 
   holds-exact : (role : ℕ) → hasRole (person σ user .roles) role ≡ true ↔ Holds σ user role
   holds-exact role = (λ e. record { held = record { found = e } }, λ holds. holds .held .found)
@@ -48,33 +51,48 @@ sized-at (rule ∷ assigns) zero sized = sized rule (foremost refl)
 sized-at (rule ∷ assigns) (suc place) sized = sized-at assigns place (λ r m. sized r (further m))
 
 module _ (P : Policy) (σ : State) (actor rule user : ℕ) where
-  -- the rule is one of its list, and both are listed
-  listed-exact : (rules : ℕ) → (ltb rule rules && ltb actor (length σ) && ltb user (length σ)) ≡ true ↔ (((rule < rules) × Present σ actor) × Present σ user)
-  listed-exact rules = both-exact _ _ (both-exact _ _ (ltb-true rule rules, lt-ltb rule rules) (present-exact σ actor)) (present-exact σ user)
+  -- the rule is one of its list, and both were ever here
+  listed-exact : (rules : ℕ) → (ltb rule rules && ltb actor (length σ) && ltb user (length σ)) ≡ true ↔ (((rule < rules) × (actor < length σ)) × (user < length σ))
+  listed-exact rules = both-exact _ _ (both-exact _ _ (below-exact rule rules) (below-exact actor (length σ))) (below-exact user (length σ))
 
   -- An assign step is possible exactly when its rule is one of the list, the actor can use it on the user, and the user doesn't yet hold the target.
   pub assign-possible : SizedPolicy P → possible P σ (TraceStep.Assign actor rule user) ≡ true ↔ ((rule < length (P .assigns)) × (CanAssign σ actor (assignAt (P .assigns) rule) user × (Holds σ user (assignAt (P .assigns) rule .target) → ⊥)))
   unfolding possible mayAssign
   assign-possible sizes =
       let sized = sized-at (P .assigns) rule (λ r. sizes .assigns) in
-      let may = both-exact _ _ (both-exact _ _ (both-exact _ _ (holds-exact σ actor _) (all-exact σ user (sized .positive))) (none-exact σ user (sized .negative))) (not-exact _ (holds-exact σ user _)) in
+      let roles = both-exact _ _ (both-exact _ _ (here-exact σ actor) (here-exact σ user)) (holds-exact σ actor _) in
+      let may = both-exact _ _ (both-exact _ _ (both-exact _ _ roles (all-exact σ user (sized .positive))) (none-exact σ user (sized .negative))) (not-exact _ (holds-exact σ user _)) in
       let test = both-exact _ _ (listed-exact (length (P .assigns))) may in (
         λ e.
-            let (((inside, acts), here), (((admin, positive), negative), fresh)) = test .0 e in
-            (inside, (record { actor-present = acts; actor-holds = admin; user-present = here; all = positive; none = negative }, fresh)),
-        λ (inside, (can, fresh)). test .1 (((inside, can .actor-present), can .user-present), (((can .actor-holds, can .all), can .none), fresh)),
+            let (((inside, acts), used), (((((acting, here), admin), positive), negative), fresh)) = test .0 e in
+            (inside, (record { actor-present = record { listed = acts; here = acting }; actor-holds = admin; user-present = record { listed = used; here = here }; all = positive; none = negative }, fresh)),
+        λ (inside, (can, fresh)). test .1 (((inside, can .actor-present .listed), can .user-present .listed), (((((can .actor-present .here, can .user-present .here), can .actor-holds), can .all), can .none), fresh)),
       )
 
   -- A revoke step likewise, and the user holds the target.
   pub revoke-possible : possible P σ (TraceStep.Revoke actor rule user) ≡ true ↔ ((rule < length (P .revokes)) × (CanRevoke σ actor (revokeAt (P .revokes) rule) user × Holds σ user (revokeAt (P .revokes) rule .target)))
   unfolding possible mayRevoke
   revoke-possible =
-      let test = both-exact _ _ (listed-exact (length (P .revokes))) (both-exact _ _ (holds-exact σ actor _) (holds-exact σ user _)) in (
+      let roles = both-exact _ _ (both-exact _ _ (here-exact σ actor) (here-exact σ user)) (holds-exact σ actor _) in
+      let test = both-exact _ _ (listed-exact (length (P .revokes))) (both-exact _ _ roles (holds-exact σ user _)) in (
         λ e.
-            let (((inside, acts), here), (admin, target)) = test .0 e in
-            (inside, (record { actor-present = acts; actor-holds = admin; user-present = here }, target)),
-        λ (inside, (can, target)). test .1 (((inside, can .actor-present), can .user-present), (can .actor-holds, target)),
+            let (((inside, acts), used), (((acting, here), admin), target)) = test .0 e in
+            (inside, (record { actor-present = record { listed = acts; here = acting }; actor-holds = admin; user-present = record { listed = used; here = here } }, target)),
+        λ (inside, (can, target)). test .1 (((inside, can .actor-present .listed), can .user-present .listed), (((can .actor-present .here, can .user-present .here), can .actor-holds), target)),
       )
+
+module _ (P : Policy) (σ : State) (user : ℕ) where
+  -- Somebody can join at a place exactly when it is the next one,
+  pub join-possible : (clearance : Bool) → possible P σ (TraceStep.Join user clearance) ≡ true ↔ user ≡ length σ
+  unfolding possible
+  join-possible clearance = (eqb-true user (length σ), eq-eqb user (length σ))
+
+  -- and a user can leave exactly when present.
+  pub leave-possible : possible P σ (TraceStep.Leave user) ≡ true ↔ Present σ user
+  unfolding possible
+  leave-possible =
+      let test = both-exact _ _ (below-exact user (length σ)) (here-exact σ user) in
+      (λ e. record { listed = test .0 e .0; here = test .0 e .1 }, λ here. test .1 (here .listed, here .here))
 
 -- ---- a broken run
 

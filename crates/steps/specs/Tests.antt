@@ -14,18 +14,20 @@ use Rattle.steps.specs.First.{first}
 
 -- ---- one step
 
--- An actor who holds the administrative role may give the target role to a user who holds all of the positive set, none of
--- the negative set, and doesn't yet hold the target role.
+-- A present actor who holds the administrative role may give the target role to a present user who holds all of the positive set,
+-- none of the negative set, and doesn't yet hold the target role.
 unfoldable pub mayAssign : Assign → Person → Person → Bool
 mayAssign rule actor user =
-    hasRole (actor .roles) (rule .admin)
+    actor .present
+    && user .present
+    && hasRole (actor .roles) (rule .admin)
     && includes (user .roles) (rule .positive)
     && not (sharesRole (rule .negative) (user .roles))
     && not (hasRole (user .roles) (rule .target))
 
--- An actor who holds the administrative role may take the target role from a user who holds it.
+-- A present actor who holds the administrative role may take the target role from a present user who holds it.
 unfoldable pub mayRevoke : Revoke → Person → Person → Bool
-mayRevoke rule actor user = hasRole (actor .roles) (rule .admin) && hasRole (user .roles) (rule .target)
+mayRevoke rule actor user = actor .present && user .present && hasRole (actor .roles) (rule .admin) && hasRole (user .roles) (rule .target)
 
 -- ---- a bad state
 
@@ -33,11 +35,11 @@ mayRevoke rule actor user = hasRole (actor .roles) (rule .admin) && hasRole (use
 unfoldable pub lowestGoal : List RoleSet → RoleSet → ℕ
 lowestGoal goals roles = first (includes roles) goals
 
--- The lowest goal that an L person holds whole; 0 for an H person.
+-- The lowest goal that a present L person holds whole; 0 for any other.
 unfoldable pub ownGoal : List RoleSet → Person → ℕ
-ownGoal goals p = cond (p .clearance) 0 (lowestGoal goals (p .roles))
+ownGoal goals p = cond (p .present && not (p .clearance)) (lowestGoal goals (p .roles)) 0
 
--- The person is L and holds all roles of some goal.
+-- The person is present and L and holds all roles of some goal.
 unfoldable pub badPerson : List RoleSet → Person → Bool
 badPerson goals p = ltb 0 (ownGoal goals p)
 
@@ -46,7 +48,7 @@ unfoldable pub goalOf : State → List RoleSet → ℕ → ℕ
 goalOf σ goals zero = 0
 goalOf σ goals (suc user) = ownGoal goals (person σ user)
 
--- The first L user in order who holds all roles of a goal, with that user's lowest goal.
+-- The first present L user in order who holds all roles of a goal, with that user's lowest goal.
 unfoldable pub firstBad : State → List RoleSet → Found
 firstBad σ goals =
     let user = first (badPerson goals) σ in

@@ -5,7 +5,8 @@ use model::Assign;
 use model::Person;
 use model::Revoke;
 
-// A step of a trace: an assign step or a revoke step, with its actor, rule number and user, all places from 0.
+// A step of a trace, all its numbers places from 0: an assign step or a revoke step, with its actor, rule number and user; somebody
+// joins, with a clearance; a user leaves. The place of who joins is that of the name, and the next one where the name is new.
 pub enum Step {
     Assign {
         actor: usize,
@@ -15,6 +16,13 @@ pub enum Step {
     Revoke {
         actor: usize,
         rule: usize,
+        user: usize,
+    },
+    Join {
+        user: usize,
+        clearance: bool,
+    },
+    Leave {
         user: usize,
     },
 }
@@ -29,7 +37,9 @@ pub struct Found {
 pub fn may_assign(rule: Assign, actor: Person, user: Person) -> bool
     ensures { λ r. ⌜ r ≡ mayAssign rule actor user ⌝ }
 {
-    actor.roles.has(rule.admin)
+    actor.present
+        & user.present
+        & actor.roles.has(rule.admin)
         & rule.positive.within(user.roles)
         & !rule.negative.shares(user.roles)
         & !user.roles.has(rule.target)
@@ -39,5 +49,5 @@ pub fn may_assign(rule: Assign, actor: Person, user: Person) -> bool
 pub fn may_revoke(rule: Revoke, actor: Person, user: Person) -> bool
     ensures { λ r. ⌜ r ≡ mayRevoke rule actor user ⌝ }
 {
-    actor.roles.has(rule.admin) & user.roles.has(rule.target)
+    actor.present & user.present & actor.roles.has(rule.admin) & user.roles.has(rule.target)
 }

@@ -1,17 +1,16 @@
 -- How a table of names, each packed and standing once, takes one name more.
 use Prim.Native.Nat.{ℕ, suc, _≤_, _<_}
 use mathlib.Core.Bool.{Bool, true, false, cond}
-use mathlib.Core.List.{List, [], _∷_, _++_, List·Memᴰ as Listed, List·Memᴰ·not-nil as not-nil}
+use mathlib.Core.List.{List, [], _∷_, _++_, List·Memᴰ·not-nil as not-nil}
 use mathlib.Core.Path.{_≡_, refl, sym, ap, _∙_}
 use borrow.Author.Tests.{eq-eqb}
 use lib.ListN.{length, getD, length-append, List·getD-append}
 use lib.Seq.{getD-append-seam}
 use native.Mathlib.Decide.{decLt}
 use native.Mathlib.Omega.{arith}
-use Rattle.text.specs.Forms.{isName}
 use Rattle.text.specs.Lists.{each-more}
 use Rattle.tables.specs.declared.Name.{Name}
-use Rattle.tables.specs.Names.{packed, sameName, placeOf}
+use Rattle.tables.specs.Names.{sameName, placeOf}
 pub use Rattle.tables.specs.NamedRules.{Spelt, Named}
 
 -- ---- one name more

@@ -1,9 +1,8 @@
 -- How an answer comes to be told, and that every answer of a function has as many values.
-use Prim.Native.Nat.{ℕ, _+_, _≤_}
+use Prim.Native.Nat.{ℕ, _+_}
 use mathlib.Core.Bool.{Bool, true, false, cond}
 use mathlib.Core.List.{List, _∷_, _++_}
 use mathlib.Core.Path.{_≡_, refl, ap}
-use lib.Dec.{lit≤}
 use lib.ListN.{length}
 use mir.Val.{boolByte}
 use Rattle.tables.specs.Padded.{padded}
@@ -22,11 +21,7 @@ known-told numberOf valuesOf same is are t = rw (ap numberOf same, ap valuesOf s
 pub other-number : (front back : List ℕ) {k j : ℕ} → k ≡ j → front ++ (k ∷ back) ≡ front ++ (j ∷ back)
 other-number front back same = ap (λ (n : ℕ). front ++ (n ∷ back)) same
 
--- the number of a text, as it is computed, and that it is small
-pub text-small : (b : Bool) → boolByte b ≤ 1
-text-small true = lit≤ tt
-text-small false = lit≤ tt
-
+-- the number of a text, as it is computed
 pub text-number : (b : Bool) → boolByte b + 1 ≡ cond b 2 1
 text-number true = refl
 text-number false = refl

@@ -1,22 +1,35 @@
--- One step line of a trace: when it is malformed, and when it names what it must not (document 01, "The texts").
+-- One step line of a trace: when it is malformed, when it names what it must not, and when its name is above the limit (document 01,
+-- "The texts", and document 02, CR 2).
 use Prim.Native.Nat.{ℕ, _-_}
-use mathlib.Core.Bool.{Bool, true, false, cond, not, _&&_}
+use mathlib.Core.Bool.{Bool, true, false, cond, not, _&&_, _||_}
 use mathlib.Core.List.{List, [], _∷_}
-use lib.Dec.{leb, eqb}
+use lib.Dec.{leb, ltb, eqb}
+use lib.ListN.{length}
 use Rattle.tables.specs.declared.Name.{Name}
-use Rattle.text.specs.Forms.{bytes, isName, numberOf}
+use Rattle.tables.specs.Names.{packed}
+use Rattle.text.specs.Forms.{bytes, isName, isLabel, numberOf}
 use Rattle.text.specs.Pieces.{split, sameBytes}
 use Rattle.walking.specs.Turns.{inTurn}
-use Rattle.walking.specs.Evidence.{tests}
+use Rattle.walking.specs.Evidence.{testsWithin}
 use Rattle.steps.specs.declared.Step.{Step}
 use Rattle.fields.specs.Fields.{placed, isDeclared}
 use Rattle.traces.specs.declared.TraceLine.{TraceLine}
 
--- A step line by its fields: an assign step, a revoke step, or neither.
+-- A step line by its fields: an assign step, a revoke step, a join, a leave, or none of them.
 pub data Line : Type 0 where
   assign : (actor number user : List ℕ) → Line
   revoke : (actor number user : List ℕ) → Line
+  join : (name clearance : List ℕ) → Line
+  leave : (name : List ℕ) → Line
   other : Line
+
+-- `leave`, name.
+unfoldable pub twoFields : (word name : List ℕ) → Line
+twoFields word name = cond (sameBytes word (bytes "leave")) (leave name) other
+
+-- `join`, name, clearance.
+unfoldable pub threeFields : (word name clearance : List ℕ) → Line
+threeFields word name clearance = cond (sameBytes word (bytes "join")) (join name clearance) other
 
 -- `assign` or `revoke`, actor, number, user.
 unfoldable pub fourFields : (word actor number user : List ℕ) → Line
@@ -27,8 +40,8 @@ fourFields word actor number user =
 unfoldable pub lineOf : List (List ℕ) → Line
 lineOf [] = other
 lineOf (w ∷ []) = other
-lineOf (w ∷ a ∷ []) = other
-lineOf (w ∷ a ∷ b ∷ []) = other
+lineOf (w ∷ a ∷ []) = twoFields w a
+lineOf (w ∷ a ∷ b ∷ []) = threeFields w a b
 lineOf (w ∷ a ∷ b ∷ c ∷ []) = fourFields w a b c
 lineOf (w ∷ a ∷ b ∷ c ∷ d ∷ more) = other
 
@@ -36,35 +49,61 @@ lineOf (w ∷ a ∷ b ∷ c ∷ d ∷ more) = other
 unfoldable pub isStep : (actor number user : List ℕ) → Bool
 isStep actor number user = isName actor && isName user && not (eqb (numberOf number) 0)
 
--- Both are declared, and there are as many rules of the kind.
+-- Both are known, and there are as many rules of the kind.
 unfoldable pub stepNamed : (rules : ℕ) → List Name → (actor number user : List ℕ) → Bool
-stepNamed rules users actor number user = isDeclared users actor && isDeclared users user && leb (numberOf number) rules
+stepNamed rules names actor number user = isDeclared names actor && isDeclared names user && leb (numberOf number) rules
 
--- A step line is well formed: an assign step or a revoke step.
+-- A step line is well formed: an assign step, a revoke step, a name and a clearance, or a name.
 unfoldable pub stepFormed : Line → Bool
 stepFormed (assign actor number user) = isStep actor number user
 stepFormed (revoke actor number user) = isStep actor number user
+stepFormed (join name clearance) = isName name && isLabel clearance
+stepFormed (leave name) = isName name
 stepFormed other = false
 
--- It names users and a rule of the policy.
+-- It names users that are known and a rule of the policy. A join's own name need not be known.
 unfoldable pub stepKnown : (assigns revokes : ℕ) → List Name → Line → Bool
-stepKnown assigns revokes users (assign actor number user) = stepNamed assigns users actor number user
-stepKnown assigns revokes users (revoke actor number user) = stepNamed revokes users actor number user
-stepKnown assigns revokes users other = true
+stepKnown assigns revokes names (assign actor number user) = stepNamed assigns names actor number user
+stepKnown assigns revokes names (revoke actor number user) = stepNamed revokes names actor number user
+stepKnown assigns revokes names (join name clearance) = true
+stepKnown assigns revokes names (leave name) = isDeclared names name
+stepKnown assigns revokes names other = true
 
--- What the line says: its step, by places from 0. Any other line is malformed.
+-- A join is not of the 65th name: its name is known, or fewer than 64 are.
+unfoldable pub stepWithin : List Name → Line → Bool
+stepWithin names (assign actor number user) = true
+stepWithin names (revoke actor number user) = true
+stepWithin names (join name clearance) = isDeclared names name || ltb (length names) 64
+stepWithin names (leave name) = true
+stepWithin names other = true
+
+-- What the line says: its step, by places from 0. A name that is not known has the next place. Any other line is malformed.
 unfoldable pub stepSaid : List Name → Line → Step
-stepSaid users (assign actor number user) = Step.Assign (placed users actor) (numberOf number - 1) (placed users user)
-stepSaid users (revoke actor number user) = Step.Revoke (placed users actor) (numberOf number - 1) (placed users user)
-stepSaid users other = Step.Assign 0 0 0
+stepSaid names (assign actor number user) = Step.Assign (placed names actor) (numberOf number - 1) (placed names user)
+stepSaid names (revoke actor number user) = Step.Revoke (placed names actor) (numberOf number - 1) (placed names user)
+stepSaid names (join name clearance) = Step.Join (placed names name) (sameBytes clearance (bytes "H"))
+stepSaid names (leave name) = Step.Leave (placed names name)
+stepSaid names other = Step.Assign 0 0 0
 
--- What the line comes to: malformed, then names, and else its step.
+-- The name that a join brings; any other line brings the name of no bytes.
+abbrev pub noName : Name
+noName = record { first = 0; second = 0; third = 0; fourth = 0 }
+
+unfoldable pub nameBrought : Line → Name
+nameBrought (assign actor number user) = noName
+nameBrought (revoke actor number user) = noName
+nameBrought (join name clearance) = packed name
+nameBrought (leave name) = noName
+nameBrought other = noName
+
+-- What the line comes to: malformed, then names, then the limit of names, and else its step and the name that it brings.
 unfoldable pub judged : (assigns revokes : ℕ) → List Name → Line → TraceLine
-judged assigns revokes users line = inTurn TraceLine.Bad (tests (stepFormed line) (stepKnown assigns revokes users line)) (TraceLine.Step (stepSaid users line))
+judged assigns revokes names line =
+    inTurn TraceLine.Bad (testsWithin (stepFormed line) (stepKnown assigns revokes names line) (stepWithin names line)) (TraceLine.Step (stepSaid names line) (nameBrought line))
 
 -- A step line, judged by its fields.
 unfoldable pub traceLine : (assigns revokes : ℕ) → List Name → List ℕ → TraceLine
-traceLine assigns revokes users line = judged assigns revokes users (lineOf (split 9 line))
+traceLine assigns revokes names line = judged assigns revokes names (lineOf (split 9 line))
 
 -- ---- a step line, from what a reader finds
 

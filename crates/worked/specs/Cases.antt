@@ -1,4 +1,5 @@
--- Document 01's worked cases from their raw texts: P1 to P10, P12 with its two typings, each alone and merged, and P13.
+-- Worked cases from their raw texts: document 01's P1 to P10, P12 with its two typings, each alone and merged, and P13; and traces in which
+-- people join and leave (document 02, CR 2).
 use Prim.Native.Nat.{ℕ}
 use Prim.Native.String.{String}
 use mathlib.Core.List.{List, [], _∷_, _++_, map}
@@ -10,16 +11,15 @@ use Rattle.closing.specs.Rounds.{roundOf, samePair, roundsOf, closeOf}
 use Rattle.rules.specs.Tests.{implies, inconsistentRole, personPasses, holdsHigh, unopposedTarget, unneededTarget, targetSuits, assignPasses, revokePasses, goalPasses}
 use Rattle.model.specs.Meaning.{meaning}
 use Rattle.bytes.specs.Bytes.{indexOf}
-use Rattle.model.specs.Policy.{revoked, withoutRole}
-use Rattle.text.specs.Forms.{bytes, isNumber, decimal, numberOf}
-use Rattle.tables.specs.Names.{sameName}
+use Rattle.model.specs.Policy.{withoutRole, revoked, leaver, departed}
+use Rattle.text.specs.Forms.{bytes}
+use Rattle.tables.specs.Names.{sameName, nameAt}
 use Rattle.reading.specs.Policy.{policyOf}
 use Rattle.tables.specs.Padded.{padded}
 use Rattle.worked.specs.Policies.{reading}
+use Rattle.worked.specs.Traces.{tracing}
 use Rattle.typings.specs.TypingLines as typing
 use Rattle.typings.specs.TypingText as typings
-use Rattle.traces.specs.TraceLines as trace
-use Rattle.traces.specs.TraceText as traces
 use Rattle.typings.specs.Kind.{isTyping}
 use Rattle.steps.specs.First.{first, firstFrom}
 use Rattle.steps.specs.Tests.{mayAssign, mayRevoke, lowestGoal, ownGoal, badPerson, goalOf, firstBad}
@@ -118,7 +118,45 @@ rows =
     })
     ∷ []
 
+-- opens every definition of answering
+unfoldable answering : Unit {0}
+unfolding reading judging padded indexOf withoutRole revoked leaver departed nameAt inTurn typing.oneField typing.twoFields typing.lineOf typing.wellFormed typing.named typing.entry typing.judged typing.typingLine typings.untyped typings.added typings.answered typings.judgeLine typings.readTyping typings.tableOf tracing isTyping mayAssign mayRevoke lowestGoal ownGoal badPerson goalOf firstBad assignAt revokeAt possible after later runOf lastVerdict ranVerdict readVerdict traceVerdict judgedAnswer typingAnswer traceAnswer evidenceAnswer answerAfter answerOf rulesVerdict sameName sameLists sameLabel samePerson sameDirectory whenRead answerIn whenSame whenAccepted mergeJudged mergeOutcome told
+answering = tt
+
 -- Each row is answered so. P11 is a law by itself (`own-target-passes`).
 pub worked-cases : map (λ (r : Row). told (r .asked)) rows ≡ map (λ (r : Row). r .answer) rows
-unfolding reading judging padded indexOf withoutRole revoked isNumber decimal numberOf inTurn typing.oneField typing.twoFields typing.lineOf typing.wellFormed typing.named typing.entry typing.judged typing.typingLine typings.untyped typings.added typings.answered typings.judgeLine typings.readTyping typings.tableOf trace.fourFields trace.lineOf trace.isStep trace.stepNamed trace.stepFormed trace.stepKnown trace.stepSaid trace.judged trace.traceLine traces.untraced traces.headerLine traces.laterLine traces.answered traces.judgeLine traces.readTrace isTyping mayAssign mayRevoke lowestGoal ownGoal badPerson goalOf firstBad assignAt revokeAt possible after later runOf lastVerdict ranVerdict readVerdict traceVerdict judgedAnswer typingAnswer traceAnswer evidenceAnswer answerAfter answerOf rulesVerdict sameName sameLists sameLabel samePerson sameDirectory whenRead answerIn whenSame whenAccepted mergeJudged mergeOutcome told
+unfolding answering
 worked-cases = refl
+
+-- ---- people join and leave
+
+-- a trace of these lines
+abbrev trace-of : List ℕ → List ℕ
+trace-of lines = bytes "trace\t1\n" ++ lines ++ bytes "end\n"
+
+-- adm gives adm and pay to anybody, and nobody low may hold pay; ann alone is listed
+abbrev handing : List ℕ
+handing = bytes "arbac\t1\nrole\tadm\nrole\tpay\nuser\tann\tH\nhas\tann\tadm\nassign\tadm\t-\t-\tadm\nassign\tadm\t-\t-\tpay\ngoal\tpay\nend\n"
+
+abbrev moves : List Row
+moves =
+    (record { name = "a joiner is given all roles of a goal"; asked = checks loose (trace-of (bytes "join\teve\tL\nassign\tann\t2\teve\nassign\tann\t1\teve\n")); answer = 1 ∷ 3 ∷ 3 ∷ 1 ∷ [] })
+    ∷ (record { name = "a joiner of clearance H holds a goal"; asked = checks loose (trace-of (bytes "join\teve\tH\nassign\tann\t2\teve\nassign\tann\t1\teve\n")); answer = 4 ∷ 3 ∷ [] })
+    ∷ (record { name = "a grant by a joiner to a joiner"; asked = checks handing (trace-of (bytes "join\teve\tH\nassign\tann\t1\teve\njoin\tdan\tL\nassign\teve\t2\tdan\n")); answer = 1 ∷ 4 ∷ 3 ∷ 1 ∷ [] })
+    ∷ (record { name = "two joiners hold a goal"; asked = checks handing (trace-of (bytes "join\teve\tL\njoin\tdan\tL\nassign\tann\t2\tdan\nassign\tann\t2\teve\n")); answer = 1 ∷ 4 ∷ 2 ∷ 1 ∷ [] })
+    ∷ (record { name = "who left is nobody"; asked = checks handing (trace-of (bytes "join\teve\tL\nassign\tann\t2\teve\nleave\teve\n")); answer = 4 ∷ 3 ∷ [] })
+    ∷ (record { name = "a listed name joins"; asked = checks loose (trace-of (bytes "join\tbob\tL\n")); answer = 3 ∷ 1 ∷ [] })
+    ∷ (record { name = "a joined name joins"; asked = checks loose (trace-of (bytes "join\teve\tL\njoin\teve\tL\n")); answer = 3 ∷ 2 ∷ [] })
+    ∷ (record { name = "a listed name that left joins"; asked = checks loose (trace-of (bytes "leave\tbob\njoin\tbob\tL\n")); answer = 3 ∷ 2 ∷ [] })
+    ∷ (record { name = "a joined name that left joins"; asked = checks loose (trace-of (bytes "join\teve\tL\nleave\teve\njoin\teve\tL\n")); answer = 3 ∷ 3 ∷ [] })
+    ∷ (record { name = "who left leaves"; asked = checks loose (trace-of (bytes "leave\tbob\nleave\tbob\n")); answer = 3 ∷ 2 ∷ [] })
+    ∷ (record { name = "who left gives"; asked = checks loose (trace-of (bytes "leave\tann\nassign\tann\t1\tbob\n")); answer = 3 ∷ 2 ∷ [] })
+    ∷ (record { name = "who left is given"; asked = checks loose (trace-of (bytes "leave\tbob\nassign\tann\t1\tbob\n")); answer = 3 ∷ 2 ∷ [] })
+    ∷ (record { name = "a name on the line above its join"; asked = checks loose (trace-of (bytes "assign\tann\t1\teve\njoin\teve\tL\n")); answer = 16 ∷ 2 ∷ [] })
+    ∷ (record { name = "a join below a broken step makes its name known"; asked = checks loose (trace-of (bytes "leave\tbob\nleave\tbob\njoin\teve\tL\nassign\tann\t1\teve\n")); answer = 3 ∷ 2 ∷ [] })
+    ∷ []
+
+-- Each is answered so.
+pub worked-moves : map (λ (r : Row). told (r .asked)) moves ≡ map (λ (r : Row). r .answer) moves
+unfolding answering
+worked-moves = refl

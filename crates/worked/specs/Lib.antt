@@ -1,4 +1,4 @@
--- Document 01's worked cases, and a text for each kind of line that is refused, computed from their bytes.
+-- The worked cases, and a text for each kind of line that is refused, computed from their bytes.
 pub mod Policies
 pub mod Typings
 pub mod Traces

@@ -3,7 +3,7 @@ use Prim.Native.Nat.{ℕ, zero, suc, _+_, _/_, _%_}
 use mathlib.Core.List.{List, [], _∷_, _++_, map}
 use mathlib.Core.Path.{_≡_, refl}
 use Rattle.roles.specs.Sets.{bit, emptySet, hasRole, singleOf, unionOf, withOf}
-use Rattle.model.specs.Policy.{nobody, person, withRole, granted}
+use Rattle.model.specs.Policy.{newcomer, nobody, person, withRole, granted, joined}
 use Rattle.text.specs.Forms.{bytes, every, between, nameByte, isName, namesOf, isSet, isLabel}
 use Rattle.tables.specs.Names.{value, packed, sameName, placeOf}
 use Rattle.text.specs.Pieces.{onto, split, sameBytes, among, repeated}
@@ -15,7 +15,7 @@ use Rattle.reading.specs.Policy.{Said, nothing, countsOf, kindOf, noted, added,
 
 -- opens every definition of this layer
 unfoldable pub reading : Unit {0}
-unfolding bit emptySet hasRole singleOf unionOf withOf nobody person withRole granted every between nameByte isName namesOf isSet isLabel value packed sameName placeOf onto split sameBytes among repeated closing onward readLines readText placed isDeclared allDeclared rolesFrom rolesOf oneField twoFields threeFields fiveFields lineOf inOrder inTurn asked tests nothing countsOf kindOf noted added isNew leads lineAsked lineTests judgeLine readPolicy
+unfolding bit emptySet hasRole singleOf unionOf withOf newcomer nobody person withRole granted joined every between nameByte isName namesOf isSet isLabel value packed sameName placeOf onto split sameBytes among repeated closing onward readLines readText placed isDeclared allDeclared rolesFrom rolesOf oneField twoFields threeFields fiveFields lineOf inOrder inTurn asked tests nothing countsOf kindOf noted added isNew leads lineAsked lineTests judgeLine readPolicy
 reading = tt
 
 -- the desk's roles, users and holding, six lines below the header
@@ -112,7 +112,7 @@ worked-undeclared = refl
 -- ---- count limits
 
 -- so many lines, each with a name of two letters of its own between what begins it and what ends it
-abbrev named : (before after : List ℕ) → ℕ → List ℕ
+abbrev pub named : (before after : List ℕ) → ℕ → List ℕ
 named before after zero = []
 named before after (suc n) = named before after n ++ (before ++ ((97 + n / 16) ∷ (97 + n % 16) ∷ []) ++ after)
 

@@ -32,16 +32,24 @@ pub fn chain(chance: &mut Chance, width: Width) -> Texts {
     Texts::Check { policy: policy.text(), evidence: policy.typing_text(&typing) }
 }
 
-/// The steps of a run, spoilt every other time.
 pub fn trace(chance: &mut Chance, width: Width) -> Texts {
+    let (policy, trace) = policy_and_trace(chance, width);
+    Texts::Check { policy: policy, evidence: trace }
+}
+
+/// The steps of a run, every other time with a goal for a joiner, and every other time spoilt.
+pub fn policy_and_trace(chance: &mut Chance, width: Width) -> (Vec<u8>, Vec<u8>) {
     let (mut policy, _) = policy_and_typing(chance);
     let most = chance.below(13);
-    let mut steps = traces::trace(chance, &policy, most);
+    let mut trace = traces::trace(chance, &policy, most);
     if chance.one_in(2) {
-        traces::spoil(chance, &mut policy, &mut steps);
+        traces::aim(chance, &mut policy, &trace);
+    }
+    if chance.one_in(2) {
+        traces::spoil(chance, &mut policy, &mut trace);
     }
     let policy = Placing::of(chance, width, &policy).policy(&policy);
-    Texts::Check { policy: policy.text(), evidence: policy.trace_text(&steps) }
+    (policy.text(), policy.trace_text(&trace))
 }
 
 /// A typing or a trace.
@@ -81,6 +89,6 @@ pub fn evidence(chance: &mut Chance, policy: &Policy, typing: &[RoleType]) -> Ve
     if chance.one_in(2) {
         return policy.typing_text(typing);
     }
-    let steps = traces::trace(chance, policy, 6);
-    policy.trace_text(&steps)
+    let trace = traces::trace(chance, policy, 8);
+    policy.trace_text(&trace)
 }

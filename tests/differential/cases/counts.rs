@@ -2,7 +2,7 @@
 
 use crate::cases::{reorderings, Case};
 use crate::chance::Chance;
-use crate::drafts::{Policy, Step};
+use crate::drafts::{Policy, Step, Trace};
 use crate::making::plain::{add_plain, plain_ground, plain_policy, plain_typing, Sizes};
 use crate::making::widening::{Placing, Width};
 use crate::texts::Texts;
@@ -143,7 +143,8 @@ fn counted(
     let evidence = evidence(chance, &mut policy);
     let mut text = policy.text();
     if chance.one_in(2) {
-        text = change_last(chance, &policy, counted.section, &text);
+        let (first, count) = lines_of(&policy, counted.section);
+        text = change_last(chance, &text, first, first + count - 1);
     }
     (made, text, evidence)
 }
@@ -219,19 +220,19 @@ fn evidence(chance: &mut Chance, policy: &mut Policy) -> Vec<u8> {
         }
         3 => {
             let number = policy.assigns.len();
-            let step = Step { assign: true, actor: last_user, number: number, user: last_user };
-            return policy.trace_text(&[step]);
+            let step =
+                Step::Rule { assign: true, actor: last_user, number: number, user: last_user };
+            return policy.trace_text(&Trace::without_joiners(vec![step]));
         }
         _ => {}
     }
     policy.typing_text(&plain_typing(policy.roles.len()))
 }
 
-/// The last line of a section becomes its first once more, or gets another last field: within a
-/// line, malformed comes before the limit and the limit before undeclared names.
-fn change_last(chance: &mut Chance, policy: &Policy, section: Section, text: &[u8]) -> Vec<u8> {
-    let (first, count) = lines_of(policy, section);
-    let last = first + count - 1;
+/// The last line of a kind becomes its first once more, or gets another last field: within a line,
+/// malformed comes before the limit, and in a policy the limit before undeclared names. Lines are
+/// counted from 0.
+pub fn change_last(chance: &mut Chance, text: &[u8], first: usize, last: usize) -> Vec<u8> {
     let mut lines: Vec<Vec<u8>> =
         text.split(|&byte| byte == b'\n').map(|line| line.to_vec()).collect();
     if chance.one_in(3) {

@@ -4,13 +4,22 @@ use crate::cases::checks::policy_and_typing;
 use crate::cases::{checks, merges, reorderings, sums};
 use crate::chance::Chance;
 use crate::making::damage::damage;
-use crate::making::traces::trace;
+use crate::making::traces;
 use crate::making::widening::{Placing, Width};
 use crate::texts::Texts;
 
 pub fn check(chance: &mut Chance, width: Width) -> Texts {
     let texts = checks::either(chance, width);
     damaged(chance, texts)
+}
+
+/// A damaged trace over a whole policy.
+pub fn trace(chance: &mut Chance, width: Width) -> Texts {
+    let (policy, mut evidence) = checks::policy_and_trace(chance, width);
+    for _ in 0..chance.pick(&DAMAGES) {
+        damage(chance, &mut evidence);
+    }
+    Texts::Check { policy: policy, evidence: evidence }
 }
 
 pub fn sum(chance: &mut Chance, width: Width) -> Texts {
@@ -51,12 +60,12 @@ fn damaged(chance: &mut Chance, mut texts: Texts) -> Texts {
 /// A text where one of another kind is wanted.
 pub fn another_kind(chance: &mut Chance, width: Width) -> Texts {
     let (policy, typing) = policy_and_typing(chance);
-    let steps = trace(chance, &policy, 3);
+    let trace = traces::trace(chance, &policy, 3);
     let placing = Placing::of(chance, width, &policy);
     let policy = placing.policy(&policy);
     let policy_text = policy.text();
     let typing_text = policy.typing_text(&placing.typing(chance, &typing));
-    let trace_text = policy.trace_text(&steps);
+    let trace_text = policy.trace_text(&trace);
     let wanted = chance.below(3);
     let mut any = || chance.pick(&[&policy_text, &typing_text, &trace_text]).clone();
     match wanted {

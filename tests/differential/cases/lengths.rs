@@ -2,7 +2,7 @@
 
 use crate::cases::{reorderings, Case};
 use crate::chance::Chance;
-use crate::drafts::{Assign, Policy, Revoke, RoleType, Step, User};
+use crate::drafts::{Assign, Policy, Revoke, RoleType, Step, Trace, User};
 use crate::making::grounds::bare_ground;
 use crate::making::names::{names, of_length};
 use crate::making::plain::plain_typing;
@@ -195,7 +195,8 @@ fn halve(chance: &mut Chance, one: &mut Vec<usize>, two: &mut Vec<usize>) {
     chance.shuffle(two);
 }
 
-/// A trace of as many steps as so many bytes allow: a role is given and taken in turn.
+/// A trace of as many steps as so many bytes allow: a role is given and taken in turn, but now and
+/// then one step is turned into the other kind.
 fn trace(chance: &mut Chance, bytes: usize) -> Texts {
     let step_length = b"assign\ta\t1\tb\n".len();
     let around = b"trace\t1\n".len() + b"assign\ta\t1\tz\n".len() + b"end\n".len();
@@ -213,13 +214,12 @@ fn trace(chance: &mut Chance, bytes: usize) -> Texts {
         revokes: vec![Revoke { admin: 0, target: 1 }],
         goals: vec![if chance.one_in(3) { vec![1, 0] } else { vec![1] }],
     };
-    let mut trace: Vec<Step> = (0..steps)
-        .map(|place| Step { assign: place % 2 == 0, actor: 0, number: 1, user: 1 })
-        .collect();
-    trace.push(Step { assign: true, actor: 0, number: 1, user: 2 });
-    if chance.one_in(3) {
-        let place = chance.below(steps);
-        trace[place].assign = !trace[place].assign;
-    }
-    Texts::Check { policy: policy.text(), evidence: policy.trace_text(&trace) }
+    let turned = if chance.one_in(3) { Some(chance.below(steps)) } else { None };
+    let step =
+        |assign: bool, user: usize| Step::Rule { assign: assign, actor: 0, number: 1, user: user };
+    let mut trace: Vec<Step> =
+        (0..steps).map(|place| step((place % 2 == 0) != (turned == Some(place)), 1)).collect();
+    trace.push(step(true, 2));
+    let evidence = policy.trace_text(&Trace::without_joiners(trace));
+    Texts::Check { policy: policy.text(), evidence: evidence }
 }

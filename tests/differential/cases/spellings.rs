@@ -3,7 +3,7 @@
 use crate::cases::checks::{evidence, policy_and_typing};
 use crate::cases::Case;
 use crate::chance::Chance;
-use crate::drafts::Step;
+use crate::drafts::{Step, Trace};
 use crate::making::names::of_length;
 use crate::making::plain::{plain_policy, Sizes};
 use crate::texts::Texts;
@@ -43,15 +43,12 @@ pub fn digits(chance: &mut Chance, turn: usize) -> Case {
     let (assigns, revokes) = if assign { (rules, 0) } else { (0, rules) };
     let sizes = Sizes { roles: 3, users: 2, assigns: assigns, revokes: revokes, goals: 1 };
     let policy = plain_policy(chance, &sizes);
-    let step =
-        Step { assign: assign, actor: chance.below(2), number: number, user: chance.below(2) };
-    let mut steps = vec![step];
+    let (actor, user) = (chance.below(2), chance.below(2));
+    let mut steps = vec![Step::Rule { assign: assign, actor: actor, number: number, user: user }];
     if chance.one_in(2) {
         let number = rules + chance.below(2);
-        steps.push(Step { assign: assign, actor: chance.below(2), number: number, user: 0 });
+        steps.push(Step::Rule { assign: assign, actor: chance.below(2), number: number, user: 0 });
     }
-    Case::at_limit(
-        made,
-        Texts::Check { policy: policy.text(), evidence: policy.trace_text(&steps) },
-    )
+    let evidence = policy.trace_text(&Trace::without_joiners(steps));
+    Case::at_limit(made, Texts::Check { policy: policy.text(), evidence: evidence })
 }

@@ -8,8 +8,9 @@ use crate::texts::TEXT_LIMIT;
 const BYTES: &[u8] = b"\n\t,-_ 019aLHz.\r\0\x01\x7f\x80\xff";
 
 /// What may stand for a field.
-const FIELDS: [&[u8]; 10] =
-    [b"-", b"L", b"H", b"l", b"1", b"assign", b"revoke", b"a,", b",a", b"--"];
+const FIELDS: [&[u8]; 12] = [
+    b"-", b"L", b"H", b"l", b"1", b"assign", b"revoke", b"join", b"leave", b"a,", b",a", b"--",
+];
 
 /// What may stand for a number.
 const NUMBERS: [&[u8]; 16] = [

@@ -4,9 +4,9 @@ use std::collections::HashSet;
 
 use crate::chance::Chance;
 
-const KEYWORDS: [&[u8]; 14] = [
+const KEYWORDS: [&[u8]; 16] = [
     b"arbac", b"role", b"user", b"has", b"assign", b"revoke", b"goal", b"end", b"typing", b"trace",
-    b"L", b"H", b"1", b"_",
+    b"join", b"leave", b"L", b"H", b"1", b"_",
 ];
 
 const BYTES: &[u8] = b"abcdefghijklmnopqrstuvwxyzABCDEFGHIJKLMNOPQRSTUVWXYZ0123456789_";

@@ -1,66 +1,120 @@
 //! Random traces: steps that are possible one after the other, and traces spoilt.
 
 use crate::chance::Chance;
-use crate::drafts::{Policy, Step};
+use crate::drafts::{Assign, Policy, Step, Trace};
+use crate::making::names::{like_taken, names_beside};
 use crate::making::sets::{add, has, mask};
 
-/// How often a step is looked for.
+/// How often a step under a rule is looked for.
 const TRIES: usize = 16;
 
+/// Somebody who is listed or has joined. Who leaves keeps the roles here, so that a step by or on
+/// one who left is often not possible for this reason alone.
+struct Person {
+    high: bool,
+    present: bool,
+    held: u128,
+}
+
+/// Steps of a run, at most so many, in which often a few join.
+pub fn trace(chance: &mut Chance, policy: &Policy, most: usize) -> Trace {
+    let joiners = joiners(chance, policy);
+    run(chance, policy, joiners, most)
+}
+
+/// A few names that are not listed, often like one that is.
+fn joiners(chance: &mut Chance, policy: &Policy) -> Vec<Vec<u8>> {
+    let mut names: Vec<Vec<u8>> = policy.users.iter().map(|user| user.name.clone()).collect();
+    for _ in 0..chance.pick(&[0, 0, 1, 1, 2, 3]) {
+        let name = if names.is_empty() || chance.one_in(2) {
+            names_beside(chance, 1, &names).remove(0)
+        } else {
+            like_taken(chance, &names)
+        };
+        names.push(name);
+    }
+    names.split_off(policy.users.len())
+}
+
 /// Steps of a run, at most so many. A run often ends at its first bad state, and sometimes goes on
-/// past it.
-pub fn trace(chance: &mut Chance, policy: &Policy, most: usize) -> Vec<Step> {
+/// past it, also by the leave of who makes it bad.
+pub fn run(chance: &mut Chance, policy: &Policy, joiners: Vec<Vec<u8>>, most: usize) -> Trace {
     let goals: Vec<u128> = policy.goals.iter().map(|goal| mask(goal)).collect();
+    let everybody = policy.users.len() + joiners.len();
     let mut state = start(policy);
     let mut steps = Vec::new();
     while steps.len() < most {
-        if bad(policy, &goals, &state) && !chance.one_in(6) {
-            return steps;
-        }
-        match step(chance, policy, &state, 0) {
+        let next = match victim(&goals, &state) {
+            Some(user) => match chance.below(12) {
+                0 => Some(Step::Leave { user: user }),
+                1 => possible(chance, policy, &state, everybody),
+                _ => None,
+            },
+            None => possible(chance, policy, &state, everybody),
+        };
+        match next {
             Some(step) => {
                 take(policy, &step, &mut state);
                 steps.push(step);
             }
-            None => return steps,
+            None => break,
         }
     }
-    steps
+    Trace { joiners: joiners, steps: steps }
+}
+
+/// Makes a goal of all that a joiner holds after a run, or held on leaving, if there is such a one.
+pub fn aim(chance: &mut Chance, policy: &mut Policy, trace: &Trace) {
+    let state = after(policy, &trace.steps);
+    let joined = state[policy.users.len()..].iter();
+    let held: Vec<u128> = joined.map(|joiner| joiner.held).filter(|&held| held != 0).collect();
+    if !held.is_empty() {
+        let held = chance.pick(&held);
+        policy.goals.push((0..policy.roles.len()).filter(|&role| has(held, role)).collect());
+    }
+}
+
+/// Somebody who is present after a run and holds a role.
+pub fn holder(policy: &Policy, trace: &Trace, role: usize) -> Option<usize> {
+    let state = after(policy, &trace.steps);
+    state.iter().position(|person| person.present && has(person.held, role))
 }
 
 /// Changes a run, or a rule that it uses, so that a step is often not possible, and mostly for one
-/// reason.
-pub fn spoil(chance: &mut Chance, policy: &mut Policy, steps: &mut Vec<Step>) {
+/// reason, or so that a name is not known.
+pub fn spoil(chance: &mut Chance, policy: &mut Policy, trace: &mut Trace) {
+    let steps = &mut trace.steps;
     let place = chance.below(steps.len() + 1);
-    let mut state = start(policy);
-    for step in &steps[..place] {
-        take(policy, step, &mut state);
-    }
-    match chance.below(8) {
-        0 if place < steps.len() => {
+    let state = after(policy, &steps[..place]);
+    match (chance.below(8), steps.get(place)) {
+        (0, Some(_)) => {
             steps.remove(place);
         }
-        1 if place < steps.len() => {
+        (1, Some(_)) => {
             let other = chance.below(steps.len());
             steps.swap(place, other);
         }
-        2..=4 if place < steps.len() && steps[place].assign => {
-            tighten(chance, policy, &steps[place], &state);
+        (2..=4, Some(&Step::Rule { assign: true, number, user, .. })) => {
+            let roles = policy.roles.len();
+            tighten(chance, &mut policy.assigns[number - 1], roles, state[user].held);
+        }
+        // below lines that speak of the name, or below none
+        (2..=4, Some(Step::Join { .. })) => {
+            let join = steps.remove(place);
+            steps.insert(chance.between(place, steps.len()), join);
         }
         _ => {
-            if let Some(step) = step(chance, policy, &state, 1) {
+            if let Some(step) = broken(chance, policy, &state) {
                 steps.insert(place, step);
             }
         }
     }
 }
 
-/// Makes a step's assign rule refuse a role that the user holds, or ask for one that the user
+/// Makes an assign rule refuse one of the roles that a user holds, or ask for one that the user
 /// lacks.
-fn tighten(chance: &mut Chance, policy: &mut Policy, step: &Step, state: &[u128]) {
-    let rule = &mut policy.assigns[step.number - 1];
-    let (held, lacked): (Vec<usize>, Vec<usize>) =
-        (0..policy.roles.len()).partition(|&role| has(state[step.user], role));
+fn tighten(chance: &mut Chance, rule: &mut Assign, roles: usize, holds: u128) {
+    let (held, lacked): (Vec<usize>, Vec<usize>) = (0..roles).partition(|&role| has(holds, role));
     if lacked.is_empty() || !held.is_empty() && chance.one_in(2) {
         add(&mut rule.negative, chance.pick(&held));
     } else {
@@ -68,57 +122,101 @@ fn tighten(chance: &mut Chance, policy: &mut Policy, step: &Step, state: &[u128]
     }
 }
 
-/// What every user holds at the start.
-fn start(policy: &Policy) -> Vec<u128> {
-    let mut state = vec![0; policy.users.len()];
+/// The listed users with what they hold at the start.
+fn start(policy: &Policy) -> Vec<Person> {
+    let mut state: Vec<Person> = policy
+        .users
+        .iter()
+        .map(|user| Person { high: user.high, present: true, held: 0 })
+        .collect();
     for &(user, role) in &policy.has {
-        state[user] |= 1 << role;
+        state[user].held |= 1 << role;
     }
     state
 }
 
-/// Whether an L user holds all roles of some goal.
-fn bad(policy: &Policy, goals: &[u128], state: &[u128]) -> bool {
-    policy
-        .users
-        .iter()
-        .zip(state)
-        .any(|(user, &held)| !user.high && goals.iter().any(|&goal| held & goal == goal))
+fn after(policy: &Policy, steps: &[Step]) -> Vec<Person> {
+    let mut state = start(policy);
+    for step in steps {
+        take(policy, step, &mut state);
+    }
+    state
 }
 
-/// A step that is not possible for so many reasons, if a few tries find one.
-fn step(chance: &mut Chance, policy: &Policy, state: &[u128], reasons: u32) -> Option<Step> {
-    for _ in 0..TRIES {
-        let mut step = any_step(chance, policy)?;
-        let asked = asked(policy, &step);
-        let mut actors = (step.actor..state.len()).chain(0..step.actor);
-        match actors.find(|&actor| state[actor] & asked.admin != 0) {
-            Some(actor) if !chance.one_in(8) => step.actor = actor,
-            _ => {}
+/// The first L user who is present and holds all roles of some goal.
+fn victim(goals: &[u128], state: &[Person]) -> Option<usize> {
+    state.iter().position(|person| {
+        let holds_one = goals.iter().any(|&goal| person.held & goal == goal);
+        person.present && !person.high && holds_one
+    })
+}
+
+/// A step that is possible, if a few tries find one; `everybody` counts the listed and the joiners.
+fn possible(
+    chance: &mut Chance,
+    policy: &Policy,
+    state: &[Person],
+    everybody: usize,
+) -> Option<Step> {
+    let join = Step::Join { user: state.len(), high: chance.one_in(3) };
+    let joins = state.len() < everybody;
+    match chance.below(16) {
+        0..=3 if joins => Some(join),
+        4..=6 => leave(chance, state, true),
+        _ => rule_step(chance, policy, state, 0).or(Some(join).filter(|_| joins)),
+    }
+}
+
+/// A step that is not possible for one reason, if a few tries find one.
+fn broken(chance: &mut Chance, policy: &Policy, state: &[Person]) -> Option<Step> {
+    match chance.below(8) {
+        0..=1 if !state.is_empty() => {
+            Some(Step::Join { user: anybody(chance, state), high: chance.one_in(2) })
         }
-        if asked.reasons(state[step.actor], state[step.user]) == reasons {
-            return Some(step);
+        2 => leave(chance, state, false),
+        _ => rule_step(chance, policy, state, 1),
+    }
+}
+
+/// The leave of somebody who is present, or of somebody who is not.
+fn leave(chance: &mut Chance, state: &[Person], present: bool) -> Option<Step> {
+    let those: Vec<usize> =
+        (0..state.len()).filter(|&user| state[user].present == present).collect();
+    if those.is_empty() {
+        return None;
+    }
+    Some(Step::Leave { user: chance.pick(&those) })
+}
+
+/// Anybody: often who came last, and sometimes the first who left.
+fn anybody(chance: &mut Chance, state: &[Person]) -> usize {
+    match (chance.below(4), state.iter().position(|person| !person.present)) {
+        (0..=1, _) => state.len() - 1,
+        (2, Some(left)) => left,
+        _ => chance.below(state.len()),
+    }
+}
+
+/// A step under a rule that is not possible for so many reasons, if a few tries find one.
+fn rule_step(chance: &mut Chance, policy: &Policy, state: &[Person], reasons: u32) -> Option<Step> {
+    let rules = [policy.revokes.len(), policy.assigns.len()];
+    if rules == [0, 0] || state.is_empty() {
+        return None;
+    }
+    for _ in 0..TRIES {
+        let assign = rules[0] == 0 || rules[1] > 0 && !chance.one_in(3);
+        let number = chance.between(1, rules[assign as usize]);
+        let user = anybody(chance, state);
+        let asked = Asked::of(policy, assign, number);
+        let actor = asked.actor(chance, state);
+        if asked.reasons(&state[actor], &state[user]) == reasons {
+            return Some(Step::Rule { assign: assign, actor: actor, number: number, user: user });
         }
     }
     None
 }
 
-/// A step by anybody, under any rule, to anybody; possible or not.
-fn any_step(chance: &mut Chance, policy: &Policy) -> Option<Step> {
-    let assign = policy.revokes.is_empty() || !policy.assigns.is_empty() && !chance.one_in(3);
-    let rules = if assign { policy.assigns.len() } else { policy.revokes.len() };
-    if rules == 0 || policy.users.is_empty() {
-        return None;
-    }
-    Some(Step {
-        assign: assign,
-        actor: chance.below(policy.users.len()),
-        number: chance.between(1, rules),
-        user: chance.below(policy.users.len()),
-    })
-}
-
-/// What the rule of a step asks for, as masks of roles.
+/// What a rule asks for, as masks of roles.
 struct Asked {
     admin: u128,
     held: u128,
@@ -126,38 +224,54 @@ struct Asked {
     target: u128,
 }
 
-fn asked(policy: &Policy, step: &Step) -> Asked {
-    if step.assign {
-        let rule = &policy.assigns[step.number - 1];
-        let target = 1 << rule.target;
-        Asked {
-            admin: 1 << rule.admin,
-            held: mask(&rule.positive),
-            absent: mask(&rule.negative) | target,
-            target: target,
-        }
-    } else {
-        let rule = &policy.revokes[step.number - 1];
-        let target = 1 << rule.target;
-        Asked { admin: 1 << rule.admin, held: target, absent: 0, target: target }
-    }
-}
-
 impl Asked {
-    /// For how many reasons the step is not possible where actor and user hold these roles.
-    fn reasons(&self, actor: u128, user: u128) -> u32 {
-        (self.admin & !actor).count_ones()
-            + (self.held & !user).count_ones()
-            + (self.absent & user).count_ones()
+    fn of(policy: &Policy, assign: bool, number: usize) -> Asked {
+        if assign {
+            let rule = &policy.assigns[number - 1];
+            let target = 1 << rule.target;
+            Asked {
+                admin: 1 << rule.admin,
+                held: mask(&rule.positive),
+                absent: mask(&rule.negative) | target,
+                target: target,
+            }
+        } else {
+            let rule = &policy.revokes[number - 1];
+            let target = 1 << rule.target;
+            Asked { admin: 1 << rule.admin, held: target, absent: 0, target: target }
+        }
+    }
+
+    /// Mostly somebody who holds the administrative role, if there is one.
+    fn actor(&self, chance: &mut Chance, state: &[Person]) -> usize {
+        let first = chance.below(state.len());
+        let mut actors = (first..state.len()).chain(0..first);
+        match actors.find(|&actor| state[actor].held & self.admin != 0) {
+            Some(actor) if !chance.one_in(8) => actor,
+            _ => first,
+        }
+    }
+
+    /// For how many reasons the step is not possible for this actor and this user.
+    fn reasons(&self, actor: &Person, user: &Person) -> u32 {
+        (!actor.present) as u32
+            + (!user.present) as u32
+            + (self.admin & !actor.held).count_ones()
+            + (self.held & !user.held).count_ones()
+            + (self.absent & user.held).count_ones()
     }
 }
 
 /// Makes the state the one after a step.
-fn take(policy: &Policy, step: &Step, state: &mut [u128]) {
-    let target = asked(policy, step).target;
-    if step.assign {
-        state[step.user] |= target;
-    } else {
-        state[step.user] &= !target;
+fn take(policy: &Policy, step: &Step, state: &mut Vec<Person>) {
+    match *step {
+        Step::Rule { assign: true, number, user, .. } => {
+            state[user].held |= Asked::of(policy, true, number).target;
+        }
+        Step::Rule { assign: false, number, user, .. } => {
+            state[user].held &= !Asked::of(policy, false, number).target;
+        }
+        Step::Join { high, .. } => state.push(Person { high: high, present: true, held: 0 }),
+        Step::Leave { user } => state[user].present = false,
     }
 }

@@ -1,25 +1,25 @@
 -- `run_trace` goes from line to line after the header: the steps so far run to the people of the ledger, and the rest of the text decides.
-use Prim.Native.Nat.{ℕ, _+_, _-_, _<_}
+use Prim.Native.Nat.{ℕ, _+_, _-_, _≤_, _<_}
 use borrow.Author.Needs.{needs}
 use borrow.Author.Tests.{not-true, not-false}
 use lib.ListN.{length}
-use mathlib.Core.Logic.{⊎-elim}
-use mathlib.Core.Path.{_≡_, refl, sym, ap, _∙_}
+use mathlib.Core.Path.{_≡_, refl, sym, ap, subst⁻¹, _∙_}
 use native.Mathlib.Omega.{arith}
+use Rattle.ledgers.specs.Ledger.{ledgerWords}
 use Rattle.reading.specs.Ledger.{ledgerSays}
 use Rattle.traces.specs.TraceText.{codeOf}
 use Rattle.traces.specs.TraceWalk.{trace-long, headless, no-line, line-open, line-more}
-use Rattle.running.specs.Reached.{Reached, Line, reached-start, reached-last, reached-bad, step-range, step-passed, step-goes, step-breaks}
+use Rattle.running.specs.Reached.{Reached, Line, reached-start, reached-last, reached-bad, step-range, step-room, step-next}
 use Rattle.running.specs.TraceVerdictExact.{run-refused}
 use Rattle.running.specs.declared.TraceVerdict.{TraceVerdict}
 use Rattle.running.proofs.run_trace.Statement.{statement}
 use Rattle.running.proofs.run_trace.Tie as tie
 
 abbrev Inv-loop : tie.InvT-loop
-Inv-loop text ledger₀ c end steps₀ broken₀ at₀ number₀ t16 ledger steps broken at number = (length ledger ≡ length ledger₀) × Reached (ledgerSays ledger₀ c) c text at number steps broken ledger
+Inv-loop text ledger₀ end known₀ steps₀ broken₀ at₀ number₀ t18 ledger known steps broken at number = (length ledger ≡ length ledger₀) × Reached (ledgerSays ledger₀ known₀) known text at number steps broken ledger
 
 abbrev μ-loop : tie.MeasureT-loop
-μ-loop text ledger₀ c end steps₀ broken₀ at₀ number₀ t16 ledger steps broken at number = length text - at
+μ-loop text ledger₀ end known₀ steps₀ broken₀ at₀ number₀ t18 ledger known steps broken at number = length text - at
 
 -- the line that was sought ends within the text,
 inside : (c : tie.Else3 Inv-loop μ-loop) → c .before .seek .result < length (c .before .before .before .before .before .before .before .before .before .before .args .text .now)
@@ -31,10 +31,10 @@ nearer c = omega (arith, c .before .seek .ensures, c .before .before .loop-test 
 
 -- and a line that is not `end` is read
 line : (c : tie.After-read-line Inv-loop μ-loop)
-    → Line (ledgerSays (c .before .before .before .before .before .before .before .before .before .before .before .before .before .before .before .before .before .args .ledger .now) (c .before .before .before .before .before .before .before .before .before .before .before .before .before .before .before .before .before .args .c)) (c .before .before .before .before .before .before .before .before .before .before .before .before .before .before .before .before .before .args .c) (c .before .before .before .before .before .before .before .before .before .before .before .before .before .before .before .before .before .args .text .now) (c .before .before .before .before .before .before .before .before .before .before .loop .at) (c .before .before .before .before .before .before .before .before .before .before .loop .number) (c .before .before .before .before .before .before .before .before .before .before .loop .steps) (c .before .before .before .before .before .before .before .before .before .before .loop .broken) (c .before .before .before .before .before .before .before .before .before .before .loop .ledger) (c .before .before .before .before .before .before .before .before .seek .result) (c .read-line .result)
+    → Line (ledgerSays (c .before .before .before .before .before .before .before .before .before .before .before .before .before .before .before .before .before .args .ledger .now) (c .before .before .before .before .before .before .before .before .before .before .before .before .before .before .before .before .before .args .c)) (c .before .before .before .before .before .before .before .before .before .before .loop .known) (c .before .before .before .before .before .before .before .before .before .before .before .before .before .before .before .before .before .args .text .now) (c .before .before .before .before .before .before .before .before .before .before .loop .at) (c .before .before .before .before .before .before .before .before .before .before .loop .number) (c .before .before .before .before .before .before .before .before .before .before .loop .steps) (c .before .before .before .before .before .before .before .before .before .before .loop .broken) (c .before .before .before .before .before .before .before .before .before .before .loop .ledger) (c .before .before .before .before .before .before .before .before .seek .result) (c .read-line .result)
 line c =
     let at = c .before .before .before .before .before .before .before .before .before .before in
-    record { reached = at .loop .inv .1; limited = at .before .before .before .before .before .before .before .pre .1; sought = c .before .before .before .before .before .before .before .before .seek .ensures; here = inside (c .before .before .before .before .before .before .before); is-not = sym (c .before .before .before .before .same .ensures) ∙ c .before .before .before .if4 .left; given = c .read-line .ensures }
+    record { reached = at .loop .inv .1; sought = c .before .before .before .before .before .before .before .before .seek .ensures; here = inside (c .before .before .before .before .before .before .before); is-not = sym (c .before .before .before .before .same .ensures) ∙ c .before .before .before .if4 .left; given = c .read-line .ensures }
 
 returns : tie.Need-returns Inv-loop μ-loop
 returns c = sym (run-refused _ _ _ _ .1 (trace-long _ _ _ _ (c .if1 .taken)))
@@ -49,7 +49,7 @@ returns-2 : tie.Need-returns-2 Inv-loop μ-loop
 returns-2 c = sym (run-refused _ _ _ _ .1 (headless _ _ _ _ (c .before .before .before .if1 .left) (sym (c .before .begins-with .ensures) ∙ not-true _ (c .if2 .taken))))
 
 loop-holds : tie.Need-loop-holds Inv-loop μ-loop
-loop-holds c = (refl, reached-start _ _ _ (c .before .before .before .if1 .left) (sym (c .before .begins-with .ensures) ∙ not-false _ (c .if2 .left)))
+loop-holds c = (refl, reached-start _ _ _ (c .before .before .before .before .before .before .pre .1) (c .before .before .before .if1 .left) (sym (c .before .begins-with .ensures) ∙ not-false _ (c .if2 .left)))
 
 seek-requires : tie.Need-seek-requires Inv-loop μ-loop
 seek-requires c κs = c .before .loop .inv .1 .after .on .within
@@ -90,7 +90,7 @@ returns-4 c =
     sym (run-refused _ _ _ _ .1 (line-more (within .before .before .before .loop .inv .1 .after) (within .before .seek .ensures) (inside within) (sym (c .before .before .same .ensures) ∙ c .before .if4 .taken) (c .if5 .taken)))
 
 first-bad-requires : tie.Need-first-bad-requires Inv-loop μ-loop
-first-bad-requires c κs = omega arith
+first-bad-requires c κs = let limits = c .before .before .before .before .before .before .before .before .before .loop .inv .1 .limited in omega (arith, limits .users, limits .goals)
 
 sub-ending : tie.Need-sub-ending Inv-loop μ-loop
 sub-ending c = omega arith
@@ -102,7 +102,7 @@ part-ending-end : tie.Need-part-ending-end Inv-loop μ-loop
 part-ending-end c = search needs
 
 ending-requires : tie.Need-ending-requires Inv-loop μ-loop
-ending-requires c κs = omega arith
+ending-requires c κs = omega (arith, c .before .before .before .before .before .before .before .before .before .before .before .before .loop .inv .1 .limited .users)
 
 same-length-3 : tie.Need-same-length-3 Inv-loop μ-loop
 same-length-3 c = c .before .before .before .before .before .before .before .before .before .before .before .before .before .loop .inv .0
@@ -123,7 +123,7 @@ part-read-line-end : tie.Need-part-read-line-end Inv-loop μ-loop
 part-read-line-end c = search needs
 
 read-line-requires : tie.Need-read-line-requires Inv-loop μ-loop
-read-line-requires c κs = omega arith
+read-line-requires c κs = omega (arith, c .before .before .before .before .before .before .before .before .before .loop .inv .1 .limited .users)
 
 enum-known-answer : tie.Need-enum-known-answer Inv-loop μ-loop
 enum-known-answer c = search needs
@@ -145,27 +145,23 @@ returns-6 c =
 add-steps : tie.Need-add-steps Inv-loop μ-loop
 add-steps c = omega (arith, c .before .before .before .before .before .before .before .before .before .before .before .before .before .loop .inv .1 .after .on)
 
-try-step-requires : tie.Need-try-step-requires Inv-loop μ-loop
-try-step-requires c κs = (omega arith, step-range (line (c .before .before .before .before .before)) (c .before .before .before .answer .given .1))
+try-next-requires : tie.Need-try-next-requires Inv-loop μ-loop
+try-next-requires c κs =
+    let read = line (c .before .before .before .before) in
+    (omega arith, read .reached .limited, step-range read (c .before .before .answer .given .1))
+
+enter-new-requires : tie.Need-enter-new-requires Inv-loop μ-loop
+enter-new-requires c κs =
+    let read = line (c .before .before .before .before .before .before .before .before) in
+    (subst⁻¹ (λ (n : ℕ). ledgerWords ≤ n) (c .before .before .before .try-next .kept .0 ∙ c .before .before .before .before .before .before .before .before .before .before .before .before .before .before .before .before .before .before .loop .inv .0) (c .before .before .before .before .before .before .before .before .before .before .before .before .before .before .before .before .before .before .before .before .before .before .before .before .before .pre .0), read .reached .limited, step-room read (c .before .before .before .before .before .before .answer .given .1))
 
 loop-less : tie.Need-loop-less Inv-loop μ-loop
-loop-less c = nearer (c .before .before .before .before .before .before .before .before .before .before .before .before .before .before .before .before)
+loop-less c = nearer (c .before .before .before .before .before .before .before .before .before .before .before .before .before .before .before .before .before .before)
 
 loop-again : tie.Need-loop-again Inv-loop μ-loop
 loop-again c =
-    let read = c .before .before .before .before .before .before .before .before .before in
-    (c .before .before .before .try-step .kept .0 ∙ read .before .before .before .before .before .before .before .before .before .before .loop .inv .0, step-breaks (line read) (c .before .before .before .before .before .before .before .answer .given .1) (c .before .before .before .before .before .if6 .taken) (c .before .before .before .try-step .ensures) (not-true _ (c .if7 .taken)))
-
-loop-less-2 : tie.Need-loop-less-2 Inv-loop μ-loop
-loop-less-2 c = nearer (c .before .before .before .before .before .before .before .before .before .before .before)
-
-loop-again-2 : tie.Need-loop-again-2 Inv-loop μ-loop
-loop-again-2 c =
-    let read = c .before .before .before .before in
-    let long = read .before .before .before .before .before .before .before .before .before .before .loop .inv .0 in
-    let told = c .before .before .answer .given .1 in
-    ⊎-elim (λ w. rw (w .6) (w .2 .kept .0 ∙ long, step-goes (line read) told (w .0 .taken) (w .2 .ensures) (not-false _ (w .5 .left)))) (λ w. rw (w .1) (long, step-passed (line read) told (w .0 .left)))
-    (c .if6 .came)
+    let read = c .before .before .before .before .before .before .before .before .before .before .before in
+    (c .before .before .enter-new .kept .0 ∙ c .before .before .before .before .before .before .try-next .kept .0 ∙ read .before .before .before .before .before .before .before .before .before .before .loop .inv .0, step-next (line read) (c .before .before .before .before .before .before .before .before .before .answer .given .1) _ _ _ (c .before .before .before .before .before .before .try-next .ensures) (c .before .before .enter-new .ensures))
 
 same-length-5 : tie.Need-same-length-5 Inv-loop μ-loop
 same-length-5 c = c .before .loop .inv .0
@@ -213,10 +209,9 @@ run-trace-spec =
     same-length-4
     returns-6
     add-steps
-    try-step-requires
+    try-next-requires
+    enter-new-requires
     loop-less
     loop-again
-    loop-less-2
-    loop-again-2
     same-length-5
     returns-7)

@@ -1,5 +1,5 @@
 -- `number_fields` puts one field past another; the invariant: the fields of the numbers before the place are put.
-use Prim.Native.Nat.{_+_, _*_, _-_, _≤_}
+use Prim.Native.Nat.{_*_, _-_, _≤_}
 use mathlib.Core.Path.{_≡_, refl, _∙_}
 use lib.ListN.{length, take}
 use native.Mathlib.Omega.{arith}

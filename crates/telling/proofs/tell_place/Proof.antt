@@ -3,7 +3,8 @@ use borrow.Author.Needs.{needs}
 use mathlib.Core.Path.{_∙_}
 use native.Mathlib.Omega.{arith}
 use Rattle.telling.specs.Numbers.{placeText, placeValues}
-use Rattle.telling.specs.NumberLaws.{text-number, text-small}
+use Rattle.ledgers.specs.LedgerLaws.{flag-small}
+use Rattle.telling.specs.NumberLaws.{text-number}
 use Rattle.telling.proofs.tell_place.Statement.{statement}
 use Rattle.telling.proofs.tell_place.Tie as tie
 
@@ -17,7 +18,7 @@ cast-tell : tie.Need-cast-tell
 cast-tell c = search needs
 
 add-tell : tie.Need-add-tell
-add-tell c = record { fits = omega (arith, text-small (c .before .before .before .before .before .args .place .evidence)) }
+add-tell c = record { fits = omega (arith, flag-small (c .before .before .before .before .before .args .place .evidence)) }
 
 tell-requires : tie.Need-tell-requires
 tell-requires c κs = search needs

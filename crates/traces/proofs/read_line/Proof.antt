@@ -21,9 +21,35 @@ add-seek c = search needs
 seek-requires-2 : tie.Need-seek-requires-2
 seek-requires-2 c κs = search needs
 
+sub-leave-line : tie.Need-sub-leave-line
+sub-leave-line c = search needs
+
+part-leave-line-start : tie.Need-part-leave-line-start
+part-leave-line-start c = search needs
+
+part-leave-line-end : tie.Need-part-leave-line-end
+part-leave-line-end c = search needs
+
+add-leave-line : tie.Need-add-leave-line
+add-leave-line c = search needs
+
+sub-leave-line-2 : tie.Need-sub-leave-line-2
+sub-leave-line-2 c = search needs
+
+part-leave-line-start-2 : tie.Need-part-leave-line-start-2
+part-leave-line-start-2 c = search needs
+
+part-leave-line-end-2 : tie.Need-part-leave-line-end-2
+part-leave-line-end-2 c = search needs
+
+leave-line-requires : tie.Need-leave-line-requires
+leave-line-requires c κs = search needs
+
 returns-2 : tie.Need-returns-2
-unfolding lineOf judged stepFormed inTurn
-returns-2 c = by-fields _ _ _ _ (two-fields (c .before .before .before .seek .ensures) (c .before .before .if1 .left) (c .before .seek2 .ensures) (c .if2 .taken))
+unfolding lineOf
+returns-2 c =
+    let cut = c .before .before .before in
+    c .leave-line .ensures ∙ by-fields _ _ _ _ (two-fields (cut .before .before .before .seek .ensures) (cut .before .before .if1 .left) (cut .before .seek2 .ensures) (cut .if2 .taken))
 
 add-seek-2 : tie.Need-add-seek-2
 add-seek-2 c = search needs
@@ -31,9 +57,48 @@ add-seek-2 c = search needs
 seek-requires-3 : tie.Need-seek-requires-3
 seek-requires-3 c κs = search needs
 
+sub-join-line : tie.Need-sub-join-line
+sub-join-line c = search needs
+
+part-join-line-start : tie.Need-part-join-line-start
+part-join-line-start c = search needs
+
+part-join-line-end : tie.Need-part-join-line-end
+part-join-line-end c = search needs
+
+add-join-line : tie.Need-add-join-line
+add-join-line c = search needs
+
+sub-join-line-2 : tie.Need-sub-join-line-2
+sub-join-line-2 c = search needs
+
+part-join-line-start-2 : tie.Need-part-join-line-start-2
+part-join-line-start-2 c = search needs
+
+part-join-line-end-2 : tie.Need-part-join-line-end-2
+part-join-line-end-2 c = search needs
+
+add-join-line-2 : tie.Need-add-join-line-2
+add-join-line-2 c = search needs
+
+sub-join-line-3 : tie.Need-sub-join-line-3
+sub-join-line-3 c = search needs
+
+part-join-line-start-3 : tie.Need-part-join-line-start-3
+part-join-line-start-3 c = search needs
+
+part-join-line-end-3 : tie.Need-part-join-line-end-3
+part-join-line-end-3 c = search needs
+
+join-line-requires : tie.Need-join-line-requires
+join-line-requires c κs = search needs
+
 returns-3 : tie.Need-returns-3
-unfolding lineOf judged stepFormed inTurn
-returns-3 c = by-fields _ _ _ _ (three-fields (c .before .before .before .before .before .seek .ensures) (c .before .before .before .before .if1 .left) (c .before .before .before .seek2 .ensures) (c .before .before .if2 .left) (c .before .seek3 .ensures) (c .if3 .taken))
+unfolding lineOf
+returns-3 c =
+    let cut = c .before .before .before .before in
+    c .join-line .ensures
+    ∙ by-fields _ _ _ _ (three-fields (cut .before .before .before .before .before .seek .ensures) (cut .before .before .before .before .if1 .left) (cut .before .before .before .seek2 .ensures) (cut .before .before .if2 .left) (cut .before .seek3 .ensures) (cut .if3 .taken))
 
 add-seek-3 : tie.Need-add-seek-3
 add-seek-3 c = search needs
@@ -107,9 +172,29 @@ read-line-spec =
     returns
     add-seek
     seek-requires-2
+    sub-leave-line
+    part-leave-line-start
+    part-leave-line-end
+    add-leave-line
+    sub-leave-line-2
+    part-leave-line-start-2
+    part-leave-line-end-2
+    leave-line-requires
     returns-2
     add-seek-2
     seek-requires-3
+    sub-join-line
+    part-join-line-start
+    part-join-line-end
+    add-join-line
+    sub-join-line-2
+    part-join-line-start-2
+    part-join-line-end-2
+    add-join-line-2
+    sub-join-line-3
+    part-join-line-start-3
+    part-join-line-end-3
+    join-line-requires
     returns-3
     add-seek-3
     seek-requires-4

@@ -47,18 +47,21 @@ place-of-requires c κs = search needs
 step-of-requires : tie.Need-step-of-requires
 step-of-requires c κs = search needs
 
+no-name-requires : tie.Need-no-name-requires
+no-name-requires c κs = search needs
+
 in-turn-requires : tie.Need-in-turn-requires
 in-turn-requires c κs = search needs
 
 returns : tie.Need-returns
 unfolding placed
 returns c =
-    let judging = c .before .before .before .before .before in
+    let judging = c .before .before .before .before .before .before in
     let found = judging .before .before .before in
     let kinds = found .before .before in
     let a = kinds .before .before .before .before .before .before .before .before .before .before .before .args in
     let places = placeOf (rows (a .c .users) (a .users .now)) in
-    step-judged _ _ _ (a .word .now) (a .actor .now) (a .number .now) (a .user .now) (kinds .before .before .before .before .same .ensures) (kinds .before .before .same2 .ensures) (rows-length _ _) (kinds .find .ensures ∙ ap places (kinds .before .pack .ensures)) (found .find2 .ensures ∙ ap places (found .before .pack2 .ensures)) (judging .before .before .number .ensures) (judging .before .is-name .ensures) (judging .is-name2 .ensures) (c .before .before .place-of .ensures) (c .before .step-of .ensures) (c .in-turn .ensures)
+    step-judged _ _ _ (a .word .now) (a .actor .now) (a .number .now) (a .user .now) (kinds .before .before .before .before .same .ensures) (kinds .before .before .same2 .ensures) (rows-length _ _) (kinds .find .ensures ∙ ap places (kinds .before .pack .ensures)) (found .find2 .ensures ∙ ap places (found .before .pack2 .ensures)) (judging .before .before .number .ensures) (judging .before .is-name .ensures) (judging .is-name2 .ensures) (c .before .before .before .place-of .ensures) (c .before .before .step-of .ensures) (c .before .no-name .ensures) (c .in-turn .ensures)
 
 pub step-line-spec : {M : Type 1} → statement M
 step-line-spec =
@@ -77,5 +80,6 @@ step-line-spec =
     is-name-requires-2
     place-of-requires
     step-of-requires
+    no-name-requires
     in-turn-requires
     returns)

@@ -1,4 +1,4 @@
--- `same_person` compares the clearances and the sets.
+-- `same_person` compares the clearances, the presence and the sets.
 use mathlib.Core.Bool.{Bool, true, false, _&&_, Bool·beq}
 use mathlib.Core.Path.{_≡_, refl, ap₂}
 use Rattle.merging.specs.Directory.{sameLabel, samePerson}
@@ -19,7 +19,7 @@ label-same false false = refl
 
 returns : tie.Need-returns
 unfolding samePerson
-returns c = ap₂ _&&_ (label-same _ _) (c .same .ensures)
+returns c = ap₂ _&&_ (ap₂ _&&_ (label-same _ _) (label-same _ _)) (c .same .ensures)
 
 pub same-person-spec : {M : Type 1} → statement M
 same-person-spec = tie.close (tie.spec same-requires returns)

@@ -6,7 +6,6 @@ use mathlib.Core.Path.{_≡_, sym, ap, ap₂, subst, _∙_}
 use lib.ListN.{length}
 use lib.Seq.{length-sets}
 use native.Mathlib.Omega.{arith}
-use Rattle.roles.specs.declared.RoleSet.{RoleSet}
 use Rattle.model.specs.declared.Person.{Person}
 use Rattle.model.specs.Policy.{withRole}
 use Rattle.ledgers.specs.Parts.{stored}
@@ -58,8 +57,8 @@ add-d c = search needs
 enum-known-entry-2 : tie.Need-enum-known-entry-2
 enum-known-entry-2 c = search needs
 
-empty-requires : tie.Need-empty-requires
-empty-requires c κs = search needs
+newcomer-requires : tie.Need-newcomer-requires
+newcomer-requires c κs = search needs
 
 store-user-requires : tie.Need-store-user-requires
 store-user-requires c κs = (c .before .before .before .before .before .before .pre .0, user-room (c .before .before .before))
@@ -138,7 +137,7 @@ returns-3 c =
     let entry = c .before .before .before .before .before .before .before .before .before .before .before in
     let begun = entry .before .before .before in
     entered-as (begun .args .ledger .now) (begun .args .c) _
-    (c .before .before .before .store-person .ensures ∙ ap₂ (λ (words : List ℕ) (roles : RoleSet). stored people words (begun .args .c .users) (record { clearance = entry .entry2 .given .0 .1 .0; roles = roles })) (c .before .before .before .before .before .before .before .store-user .ensures) (c .before .before .before .before .before .before .before .before .before .empty .ensures))
+    (c .before .before .before .store-person .ensures ∙ ap₂ (λ (words : List ℕ) (p : Person). stored people words (begun .args .c .users) p) (c .before .before .before .before .before .before .before .store-user .ensures) (c .before .before .before .before .before .before .before .before .before .newcomer .ensures))
     (user-entered (begun .args .ledger .now) (begun .args .c) (begun .pre .0) (begun .pre .1) (entry .entry2 .given .0 .0) (entry .entry2 .given .0 .1 .0) (user-room entry)) (entry .entry2 .given .1)
 
 same-length-3 : tie.Need-same-length-3
@@ -196,7 +195,7 @@ enter-spec =
     store-role-requires
     add-d
     enum-known-entry-2
-    empty-requires
+    newcomer-requires
     store-user-requires
     store-person-requires
     add-d-2

@@ -1,125 +1,89 @@
--- `try_step`: the rule, the actor and the user are those of the ledger, and what is stored is the user after the step.
+-- `try_step` goes by the kind of the step, and by what its callees promise.
 use borrow.Author.Needs.{needs}
-use borrow.Author.Tests.{not-true, not-false}
-use mathlib.Core.Path.{_≡_, sym, subst, _∙_}
+use mathlib.Core.Path.{subst}
 use native.Mathlib.Omega.{arith}
-use Rattle.ledgers.specs.Parts.{rowAt}
-use Rattle.ledgers.specs.Ledger.{people, assignRules, revokeRules}
-use Rattle.steps.specs.Tests.{mayAssign, mayRevoke}
-use Rattle.running.specs.Range.{InRange, Ranged}
-use Rattle.running.specs.Trying.{assign-off, assign-on, revoke-off, revoke-on}
+use Rattle.running.specs.Range.{Ranged, in-limits}
+use Rattle.running.specs.Trying.{assign-tried, revoke-tried, leave-tried, join-tried}
 use Rattle.running.proofs.state.try_step.Statement.{statement}
 use Rattle.running.proofs.state.try_step.Tie as tie
-
--- the places of an assign step are in range, and of a revoke step
-assign-places : (c : tie.After-known-told) → InRange 256 64 (c .before .step .given .0 .0) (c .before .step .given .0 .1 .0) (c .before .step .given .0 .1 .1 .0)
-assign-places c = subst (Ranged 256 256 64) (c .before .step .given .1) (c .before .before .before .before .pre .1)
-
-revoke-places : (c : tie.After-known-told2) → InRange 256 64 (c .before .step2 .given .0 .0) (c .before .step2 .given .0 .1 .0) (c .before .step2 .given .0 .1 .1 .0)
-revoke-places c = subst (Ranged 256 256 64) (c .before .step2 .given .1) (c .before .before .before .before .pre .1)
-
--- the tests are those of the rows
-assign-tested : (c : tie.After-may-assign)
-    → mayAssign (rowAt assignRules (c .before .before .before .before .before .before .before .before .before .before .before .args .ledger .now) (c .before .before .before .before .before .before .before .before .step .given .0 .1 .0)) (rowAt people (c .before .before .before .before .before .before .before .before .before .before .before .args .ledger .now) (c .before .before .before .before .before .before .before .before .step .given .0 .0)) (rowAt people (c .before .before .before .before .before .before .before .before .before .before .before .args .ledger .now) (c .before .before .before .before .before .before .before .before .step .given .0 .1 .1 .0)) ≡ c .may-assign .result
-assign-tested c = sym (rw (c .before .before .before .before .before .assign .ensures, c .before .before .before .person .ensures, c .before .person2 .ensures) at (c .may-assign .ensures))
-
-revoke-tested : (c : tie.After-may-revoke)
-    → mayRevoke (rowAt revokeRules (c .before .before .before .before .before .before .before .before .before .before .before .args .ledger .now) (c .before .before .before .before .before .before .before .before .step2 .given .0 .1 .0)) (rowAt people (c .before .before .before .before .before .before .before .before .before .before .before .args .ledger .now) (c .before .before .before .before .before .before .before .before .step2 .given .0 .0)) (rowAt people (c .before .before .before .before .before .before .before .before .before .before .before .args .ledger .now) (c .before .before .before .before .before .before .before .before .step2 .given .0 .1 .1 .0)) ≡ c .may-revoke .result
-revoke-tested c = sym (rw (c .before .before .before .before .before .revoke .ensures, c .before .before .before .person3 .ensures, c .before .person4 .ensures) at (c .may-revoke .ensures))
 
 enum-known-step : tie.Need-enum-known-step
 enum-known-step c = search needs
 
-assign-requires : tie.Need-assign-requires
-assign-requires c κs = omega (arith, assign-places (c .before))
+try-assign-requires : tie.Need-try-assign-requires
+try-assign-requires c κs =
+    let begun = c .before .before .before .before .before in
+    let limits = begun .pre .1 in
+    (begun .pre .0, in-limits (limits .assigns) (limits .users) (subst (Ranged (begun .args .c .assigns) (begun .args .c .revokes) (begun .args .c .users)) (c .before .before .step .given .1) (begun .pre .2)))
 
-person-requires : tie.Need-person-requires
-person-requires c κs = omega (arith, assign-places (c .before .before .before))
+enum-known-step-2 : tie.Need-enum-known-step-2
+enum-known-step-2 c = search needs
 
-person-requires-2 : tie.Need-person-requires-2
-person-requires-2 c κs = omega (arith, assign-places (c .before .before .before .before .before))
+try-revoke-requires : tie.Need-try-revoke-requires
+try-revoke-requires c κs =
+    let begun = c .before .before .before .before .before in
+    let limits = begun .pre .1 in
+    (begun .pre .0, in-limits (limits .revokes) (limits .users) (subst (Ranged (begun .args .c .assigns) (begun .args .c .revokes) (begun .args .c .users)) (c .before .before .step2 .given .1) (begun .pre .2)))
 
-may-assign-requires : tie.Need-may-assign-requires
-may-assign-requires c κs = search needs
+enum-known-step-3 : tie.Need-enum-known-step-3
+enum-known-step-3 c = search needs
+
+enum-known-step-4 : tie.Need-enum-known-step-4
+enum-known-step-4 c = search needs
+
+try-leave-requires : tie.Need-try-leave-requires
+try-leave-requires c κs =
+    let begun = c .before .before .before .before .before in
+    let here = subst (Ranged (begun .args .c .assigns) (begun .args .c .revokes) (begun .args .c .users)) (c .before .before .step4 .given .1) (begun .pre .2) in
+    (begun .pre .0, omega (arith, here, begun .pre .1 .users))
 
 same-length : tie.Need-same-length
 same-length c = search needs
 
 returns : tie.Need-returns
-returns c = rw (c .before .before .before .before .before .before .before .before .before .step .given .1) (assign-off _ _ _ _ (assign-tested (c .before) ∙ not-true _ (c .if1 .taken)))
-
-with-role-requires : tie.Need-with-role-requires
-with-role-requires c κs = search needs
-
-store-person-requires : tie.Need-store-person-requires
-store-person-requires c κs = omega (arith, assign-places (c .before .before .before .before .before .before .before .before .before .before))
-
-enum-known-step-2 : tie.Need-enum-known-step-2
-enum-known-step-2 c = search needs
-
-revoke-requires : tie.Need-revoke-requires
-revoke-requires c κs = omega (arith, revoke-places (c .before))
-
-person-requires-3 : tie.Need-person-requires-3
-person-requires-3 c κs = omega (arith, revoke-places (c .before .before .before))
-
-person-requires-4 : tie.Need-person-requires-4
-person-requires-4 c κs = omega (arith, revoke-places (c .before .before .before .before .before))
-
-may-revoke-requires : tie.Need-may-revoke-requires
-may-revoke-requires c κs = search needs
+returns c =
+    let begun = c .before .before .before .before .before .before .before .before in
+    let kind = c .before .before .before .before .before .step .given .1 in
+    rw kind (assign-tried _ (begun .pre .0) _ (begun .pre .1) (subst (Ranged (begun .args .c .assigns) (begun .args .c .revokes) (begun .args .c .users)) kind (begun .pre .2)) (c .before .before .try-assign .ensures))
 
 same-length-2 : tie.Need-same-length-2
 same-length-2 c = search needs
 
 returns-2 : tie.Need-returns-2
-returns-2 c = rw (c .before .before .before .before .before .before .before .before .before .step2 .given .1) (revoke-off _ _ _ _ (revoke-tested (c .before) ∙ not-true _ (c .if2 .taken)))
+returns-2 c =
+    let begun = c .before .before .before .before .before .before .before .before in
+    let kind = c .before .before .before .before .before .step2 .given .1 in
+    rw kind (revoke-tried _ (begun .pre .0) _ (begun .pre .1) (subst (Ranged (begun .args .c .assigns) (begun .args .c .revokes) (begun .args .c .users)) kind (begun .pre .2)) (c .before .before .try-revoke .ensures))
 
-without-role-requires : tie.Need-without-role-requires
-without-role-requires c κs = search needs
-
-store-person-requires-2 : tie.Need-store-person-requires-2
-store-person-requires-2 c κs = omega (arith, revoke-places (c .before .before .before .before .before .before .before .before .before .before))
+returns-3 : tie.Need-returns-3
+returns-3 c =
+    let begun = c .before .before .before .before .before in
+    rw (c .before .before .step3 .given .1) (join-tried _ (begun .pre .0) _ (begun .pre .1) _)
 
 same-length-3 : tie.Need-same-length-3
 same-length-3 c = search needs
 
-returns-3 : tie.Need-returns-3
-returns-3 c =
-    rw (c .before .before .before .before .before .before .before .before .before .before .before .before .before .before .step .given .1, c .before .before .store-person .ensures, c .before .before .before .with-role .ensures, c .before .before .before .before .before .before .before .before .before .person .ensures, c .before .before .before .before .before .before .before .before .before .before .before .assign .ensures)
-    (assign-on _ _ _ _ (c .before .before .before .before .before .before .before .before .before .before .before .before .before .before .before .before .before .pre .0) (assign-tested (c .before .before .before .before .before .before) ∙ not-false _ (c .before .before .before .before .before .if1 .left)))
-
-same-length-4 : tie.Need-same-length-4
-same-length-4 c = search needs
-
 returns-4 : tie.Need-returns-4
 returns-4 c =
-    rw (c .before .before .before .before .before .before .before .before .before .before .before .before .before .before .step2 .given .1, c .before .before .store-person2 .ensures, c .before .before .before .without-role .ensures, c .before .before .before .before .before .before .before .before .before .person3 .ensures, c .before .before .before .before .before .before .before .before .before .before .before .revoke .ensures)
-    (revoke-on _ _ _ _ (c .before .before .before .before .before .before .before .before .before .before .before .before .before .before .before .before .before .pre .0) (revoke-tested (c .before .before .before .before .before .before) ∙ not-false _ (c .before .before .before .before .before .if2 .left)))
+    let begun = c .before .before .before .before .before .before .before .before in
+    let kind = c .before .before .before .before .before .step4 .given .1 in
+    rw kind (leave-tried _ (begun .pre .0) _ (begun .pre .1) (subst (Ranged (begun .args .c .assigns) (begun .args .c .revokes) (begun .args .c .users)) kind (begun .pre .2)) (c .before .before .try-leave .ensures))
 
 pub try-step-spec : {M : Type 1} → statement M
 try-step-spec =
     tie.close
     (tie.spec
     enum-known-step
-    assign-requires
-    person-requires
-    person-requires-2
-    may-assign-requires
+    try-assign-requires
+    enum-known-step-2
+    try-revoke-requires
+    enum-known-step-3
+    enum-known-step-4
+    try-leave-requires
     same-length
     returns
-    with-role-requires
-    store-person-requires
-    enum-known-step-2
-    revoke-requires
-    person-requires-3
-    person-requires-4
-    may-revoke-requires
     same-length-2
     returns-2
-    without-role-requires
-    store-person-requires-2
-    same-length-3
     returns-3
-    same-length-4
+    same-length-3
     returns-4)
