@@ -39,14 +39,14 @@ function take_policy(at, line,    field, kind, place) {
     line_of[kind, place] = line
     name_of[kind, place] = field[2]
     if (kind == "role" || kind == "user") declared[kind, field[2]] = at
-    if (kind == "user") clearance[field[2]] = field[3]
+    if (kind == "user") take_person(field[2], field[3], "policy.txt line " at)
     if (kind == "has") {
         has_at[field[2], field[3]] = at
         holds[field[2], field[3]] = 0
     }
 }
 
-# Takes a good line of the evidence: the kind of evidence, the sets of a role, or a step.
+# Takes a good line of the evidence: the kind of evidence, the sets of a role, or a step and who joins by it.
 function take_evidence(at, line,    field) {
     evidence[at] = line
     split(line, field, "\t")
@@ -55,7 +55,15 @@ function take_evidence(at, line,    field) {
         label[field[1]] = field[2]
         plus[field[1]] = field[3]
         minus[field[1]] = field[4]
-    }
+    } else if (field[1] == "join") take_person(field[2], field[3], "evidence.txt line " at)
+}
+
+# Takes somebody by a user line or a join line: the clearance, and where it stands. Who is known already stays as before.
+function take_person(name, level, where) {
+    if (name in clearance) return
+    person[++people] = name
+    clearance[name] = level
+    entered[name] = where
 }
 
 # Whether a name is in a set as it is written.
@@ -106,21 +114,28 @@ function held_by(user,    place, set) {
 # What is shown, of what, and what is not.
 function safe() {
     print "SAFE: the typing is accepted. No run of administrative steps, however long, lets a user with clearance L hold all roles"
-    print "of a goal. A run starts from the holdings that policy.txt lists, and its users are the listed ones throughout."
+    print "of a goal. A run starts from the holdings that policy.txt lists. In it any number of people may join, with either"
+    print "clearance and no roles, and people may leave and lose all roles; nobody comes back."
     print ""
     print "Judged were " many(said[2], "role") ", " many(said[3], "assign rule") ", " many(said[4], "revoke rule") " and " \
         many(said[5], "goal") ". The plus and minus sets of the typing have " many(said[6], "name") "."
     print ""
-    print "It says nothing about users, holdings or rules that policy.txt does not list, and nothing about these rules in one"
-    print "directory with those of another policy: for that the two have to be merged."
+    print "It says nothing about holdings or rules that policy.txt does not list, nothing about people who join with roles, and"
+    print "nothing about these rules in one directory with those of another policy: for that the two have to be merged."
 }
 
 # ---- traces
 
-# Puts the step of a number at hand: who does what to whom, and the fields of the rule that it names.
+# Puts the step of a number at hand: who joins with which clearance, who leaves, or who does what to whom, and then the fields of the
+# rule that it names.
 function take_step(number,    field, rule) {
     split(evidence[number + 1], field, "\t")
     step["kind"] = field[1]
+    if (field[1] == "join" || field[1] == "leave") {
+        step["user"] = field[2]
+        step["clearance"] = field[3]
+        return
+    }
     step["actor"] = field[2]
     step["number"] = field[3]
     step["user"] = field[4]
@@ -133,24 +148,40 @@ function take_step(number,    field, rule) {
 
 # What the step at hand does.
 function deed() {
+    if (step["kind"] == "join") return step["user"] " joins, with clearance " step["clearance"] " and no roles"
+    if (step["kind"] == "leave") return step["user"] " leaves, and loses " held_by(step["user"])
     if (step["kind"] == "assign") return step["actor"] " gives " step["target"] " to " step["user"]
     return step["actor"] " takes " step["target"] " from " step["user"]
 }
 
-# Says what the step at hand does, and by which rule.
+# Says what the step at hand does, and by which rule where it is by one.
 function tell_step(number) {
     print "Step " number ", evidence.txt line " (number + 1) ": " deed()
-    print "    by " step["kind"] " rule " step["number"] ", " briefly(step["kind"], step["number"])
+    if (step["kind"] == "assign" || step["kind"] == "revoke") {
+        print "    by " step["kind"] " rule " step["number"] ", " briefly(step["kind"], step["number"])
+    }
 }
 
-# Follows the steps up to the last of a number in what users hold, and says each where TOLD.
+# Follows the steps up to the last of a number in what users hold and who has left, and says each where TOLD.
 function follow(last, told,    number) {
     for (number = 1; number <= last; number++) {
         take_step(number)
-        if (step["kind"] == "assign") holds[step["user"], step["target"]] = number
-        else delete holds[step["user"], step["target"]]
         if (told) tell_step(number)
+        if (step["kind"] == "assign") holds[step["user"], step["target"]] = number
+        else if (step["kind"] == "revoke") delete holds[step["user"], step["target"]]
+        else if (step["kind"] == "leave") follow_leave(step["user"], number + 1)
     }
+}
+
+# Follows that a user leaves by a line of the trace, with all roles.
+function follow_leave(user, at,    place) {
+    left[user] = "evidence.txt line " at
+    for (place = 1; place <= count["role"]; place++) delete holds[user, name_of["role", place]]
+}
+
+# What a user holds, or that the user has left.
+function standing(user) {
+    return user in left ? "has left, " left[user] : "holds " held_by(user)
 }
 
 # Since when a user holds a role.
@@ -166,26 +197,41 @@ function attacked(steps, user, goal,    list, last, place) {
     print ""
     follow(steps, 1)
     if (steps > 0) print ""
-    print user ", whose clearance is L (policy.txt line " declared["user", user] "), " (steps > 0 ? "then " : "") \
-        "holds all roles of goal " goal ":"
+    print user ", whose clearance is L (" entered[user] "), " (steps > 0 ? "then " : "") "holds all roles of goal " goal ":"
     last = split(name_of["goal", goal], list, ",")
     for (place = 1; place <= last; place++) print "    " list[place] ", " since(user, list[place])
     print cited("goal", goal)
 }
 
-# The step that can't be taken, what it takes, and what is held before it.
-function broken(number,    user) {
+# The step that can't be taken, and why.
+function broken(number) {
     print "BROKEN: step " number " of the trace can't be taken" (number > 1 ? "; the steps before it can." : ".")
     print "This is no attack, and it doesn't show that the policy is safe either."
     print ""
     follow(number - 1, 0)
     take_step(number)
-    user = step["user"]
     print "evidence.txt line " (number + 1) ": " evidence[number + 1]
+    if (step["kind"] == "join") broken_presence("A name that is listed or has joined never joins again; nobody comes back:", step["user"])
+    else if (step["kind"] == "leave") broken_presence("Only who is present can leave:", step["user"])
+    else broken_rule(step["actor"], step["user"])
+}
+
+# Why a user can't join or leave: what is asked, and where the user is listed or joined, and has left.
+function broken_presence(asked, user) {
+    print ""
+    print asked
+    print "    " user (("user", user) in declared ? " is listed, " : " joined, ") entered[user]
+    if (user in left) print "    " user " has left, " left[user]
+}
+
+# What the step at hand takes by its rule, and what is held before it.
+function broken_rule(actor, user,    both) {
+    both = user "" != actor ""
     print cited(step["kind"], step["number"])
     print ""
     print "By " step["kind"] " rule " step["number"] ", " deed() ". For this, all of these must hold:"
-    print "    " step["actor"] " holds " step["role"]
+    print "    " actor (both ? " and " user " are present" : " is present")
+    print "    " actor " holds " step["role"]
     if (step["kind"] == "revoke") print "    " user " holds " step["target"]
     else {
         if (step["positive"] != "-") print "    " user " holds all of the positive set: " names(step["positive"])
@@ -193,11 +239,11 @@ function broken(number,    user) {
         print "    " user " does not yet hold " step["target"]
     }
     print "Before this step:"
-    print "    " step["actor"] " holds " held_by(step["actor"])
-    if (user "" != step["actor"] "") print "    " user " holds " held_by(user)
+    print "    " actor " " standing(actor)
+    if (both) print "    " user " " standing(user)
 }
 
-# The goals, and what users with clearance L hold after the last step.
+# The goals, and what users with clearance L who are present hold after the last step.
 function short(steps,    place, low) {
     if (steps == 0) print "SHORT: the trace has no steps, and at the start no user with clearance L holds all roles of a goal."
     else {
@@ -209,12 +255,12 @@ function short(steps,    place, low) {
     for (place = 1; place <= count["goal"]; place++) print cited("goal", place)
     print ""
     follow(steps, 0)
-    for (place = 1; place <= count["user"]; place++) {
-        if (clearance[name_of["user", place]] != "L") continue
-        if (!low++) print "The users with clearance L then hold:"
-        print "    " name_of["user", place] ": " held_by(name_of["user", place])
+    for (place = 1; place <= people; place++) {
+        if (clearance[person[place]] != "L" || person[place] in left) continue
+        if (!low++) print "The users with clearance L who are present then hold:"
+        print "    " person[place] ": " held_by(person[place])
     }
-    if (!low) print "No user has clearance L."
+    if (!low) print "No user with clearance L is present then."
 }
 
 # ---- typings

@@ -4,8 +4,8 @@
 # fits, nothing is said. What the line says is repeated only after the tests of its bytes.
 
 BEGIN {
-    # what the fields of a kind of line are, in words and by letters: w a fixed word, n a new name, u a user, r a role, s a set,
-    # g the set of a goal, l a clearance or label, d a rule number
+    # what the fields of a kind of line are, in words and by letters: w a fixed word, n the name that it brings, u a user, r a role,
+    # s a set, g the set of a goal, l a clearance or label, d a rule number
     fields["role"] = "role, name"
     letters["role"] = "wn"
     fields["user"] = "user, name, clearance"
@@ -22,6 +22,10 @@ BEGIN {
     letters["end"] = "w"
     fields["step"] = "assign or revoke, actor, rule number, user"
     letters["step"] = "wudu"
+    fields["join"] = "join, name, clearance"
+    letters["join"] = "wnl"
+    fields["leave"] = "leave, user"
+    letters["leave"] = "wu"
     fields["typing"] = "name, label, plus set, minus set"
     letters["typing"] = "rlss"
     # in this order the lines of a policy come
@@ -42,15 +46,18 @@ function tell_hint(number, at,    kind, hint) {
         if (number == 12) hint = "A policy has at most " most[kind] " " kind " lines."
         else if (number == 13) hint = undeclared_hint(kind)
         else if (number == 16) hint = place_hint(kind, at)
+        else if (number == 21) hint = names_hint()
         else hint = kind_hint(kind, at)
     }
     if (hint != "") print hint
 }
 
-# The kind of the bad line by its first field.
+# The kind of the bad line by its first field; none where no line of its text begins so.
 function kind_of(word) {
-    if (refused == "policy" || bad == "end") return word
-    return is_typing ? "typing" : word == "assign" || word == "revoke" ? "step" : word
+    if (refused == "policy") return word in rank ? word : ""
+    if (is_typing) return bad == "end" ? "end" : "typing"
+    if (word == "assign" || word == "revoke") return "step"
+    return word == "join" || word == "leave" || word == "end" ? word : ""
 }
 
 # What no line has, whatever its kind. What passes has a tab, a comma or '-' only where one can stand.
@@ -86,7 +93,7 @@ function kind_hint(kind, at,    hint, place) {
         return "It comes too early: the line of role " name_of["role", at - 1] " must stand here."
     }
     if (!(kind in fields) && refused == "policy") return "Its first field must be role, user, has, assign, revoke, goal or end."
-    if (!(kind in fields)) return "Its first field must be assign, revoke or end."
+    if (!(kind in fields)) return "Its first field must be assign, revoke, join, leave or end."
     if (last != length(letters[kind])) {
         return "It has " many(last, "field") ", and must have " length(letters[kind]) ": " fields[kind] "."
     }
@@ -120,11 +127,11 @@ function policy_hint(kind,    over) {
     return ""
 }
 
-# The first name of the bad line that no line of the policy, or none above it, declares.
+# The first name of the bad line that is not known from the policy or from the lines above it.
 function undeclared_hint(kind,    place, letter, list, all, i) {
     for (place = 1; place <= last; place++) {
         letter = substr(letters[kind], place, 1)
-        if (letter == "u" && !(("user", field[place]) in declared)) return undeclared("user", field[place])
+        if (letter == "u" && !(field[place] in clearance)) return undeclared("user", field[place])
         if (letter !~ /[rsg]/ || field[place] == "-") continue
         all = split(field[place], list, ",")
         for (i = 1; i <= all; i++) {
@@ -134,9 +141,16 @@ function undeclared_hint(kind,    place, letter, list, all, i) {
     return ""
 }
 
-# That a name is not declared.
+# That a name is not known: a trace knows also those who join.
 function undeclared(kind, name) {
-    return (refused == "policy" ? "No " kind " line above declares the " : "The policy has no ") kind " " name "."
+    if (refused == "policy") return "No " kind " line above declares the " kind " " name "."
+    return "The policy has no " kind " " name (kind == "user" ? ", and nobody of this name joins on a line above." : ".")
+}
+
+# That there is no room for the name of a join line, and which names count.
+function names_hint() {
+    return "A policy and a trace have at most " most["user"] " user names together. The policy lists " (count["user"] + 0) \
+        ", and the join lines above have " (people - count["user"]) " more. A name counts once, also after its user has left."
 }
 
 # What a line of the evidence asks of the policy and does not find there.

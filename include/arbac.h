@@ -27,7 +27,9 @@
    `arbac_check_line` AND `arbac_check_line_in` RETURN A LENGTH, AND NOT AN ANSWER'S NUMBER. FROM THEM ALONE 0 SAYS THAT THE
    BUFFER OR THE MEMORY WAS TOO SHORT, and then no line was written.
 
-   A line is counted from 1, and is 0 for 10, 14, 17, 18, 19 and 20. Users, rules, goals and steps are counted from 1. */
+   A line is counted from 1, and is 0 for 10, 14, 17, 18, 19 and 20. Users, rules, goals and steps are counted from 1. Joins and
+   leaves are steps too. The policy's users are counted first, and those who join in a trace follow in order of joining, 64 in all
+   at most. A trace knows the names of the policy's users and of those who join on the lines above. */
 #ifndef ARBAC_H
 #define ARBAC_H
 
@@ -61,11 +63,12 @@ extern "C" {
 #define ARBAC_POLICY_UNDECLARED 13 /* an undeclared name */
 #define ARBAC_EVIDENCE_TOO_LONG 14
 #define ARBAC_EVIDENCE_MALFORMED 15
-#define ARBAC_EVIDENCE_UNDECLARED 16 /* an undeclared name, a wrong role name at its place or a rule number above the count */
+#define ARBAC_EVIDENCE_UNDECLARED 16 /* an unknown name, a wrong role name at its place or a rule number above the count */
 #define ARBAC_DIRECTORIES_DIFFER 17 /* roles, users, clearances or holdings of the two policies */
 #define ARBAC_SUM_TOO_LONG 18 /* the sum's text is longer than `out` or than 32,768 bytes */
 #define ARBAC_JOINT_ABOVE_LIMIT 19 /* a joint count above its limit */
 #define ARBAC_SPELLING_TOO_LONG 20 /* the policy's spelling is longer than `out` */
+#define ARBAC_EVIDENCE_ABOVE_LIMIT 21 /* a join line with the 65th user name of policy and trace together */
 
 /* The parts of a policy. The number beside a part is that of the user, the rule or the goal. */
 #define ARBAC_PART_HOLDINGS 1
@@ -121,7 +124,7 @@ extern "C" {
      ARBAC_UNPROVED   part, number, 0, 0, 0
      ARBAC_BROKEN     step, 0, 0, 0, 0
      ARBAC_SHORT      steps, 0, 0, 0, 0
-     10 to 16         line, 0, 0, 0, 0
+     10 to 16, 21     line, 0, 0, 0, 0
      ARBAC_NO_ROOM    nothing, where values_length is below ARBAC_CHECK  */
 uint64_t arbac_check(const uint8_t *policy, size_t policy_length,
                      const uint8_t *evidence, size_t evidence_length,
@@ -148,7 +151,7 @@ size_t arbac_check_line_in(const uint8_t *policy, size_t policy_length,
 /* Where the bad line stands that 11, 12, 13, 15 or 16 of `arbac_check` speak of.
 
      ARBAC_IN_POLICY     where the line begins in the policy, its length without LF;
-                         0, 0 where `end` is missing and for every other answer
+                         0, 0 where `end` is missing and for every other answer, 21 among them
      ARBAC_IN_EVIDENCE   where the line begins in the evidence, its length without LF
      ARBAC_NO_ROOM       nothing, where place_length is below ARBAC_BAD_LINE
 

@@ -1,6 +1,6 @@
-/* The library called from C: the desk policy judged, a blank field found, the guard pair summed and merged, a trace refused where
-   a typing is wanted, and a policy spelt; then all of it once more in lent memory. What a function returns is looked at before
-   anything that it wrote. It is C11 and C++17. */
+/* The library called from C: the desk policy judged, a blank field found, a trace with a joiner judged, the guard pair summed and
+   merged, a trace refused where a typing is wanted, and a policy spelt; then all of it once more in lent memory. What a function
+   returns is looked at before anything that it wrote. It is C11 and C++17. */
 #include <inttypes.h>
 #include <stdio.h>
 #include <stdlib.h>
@@ -108,6 +108,9 @@ static void check_texts(const char *policy_path, const char *evidence_path, uint
     case ARBAC_POLICY_TOO_LONG:
     case ARBAC_EVIDENCE_TOO_LONG:
         printf("refused %" PRIu64 ": too long\n", answer);
+        break;
+    case ARBAC_EVIDENCE_ABOVE_LIMIT:
+        printf("refused %" PRIu64 " at line %" PRIu64 ": a user name too many\n", answer, values[0]);
         break;
     default:
         printf("refused %" PRIu64 " at line %" PRIu64 "\n", answer, values[0]);
@@ -231,6 +234,9 @@ static void check_without_room(const char *policy_path, const char *evidence_pat
 static void use_all(uint64_t *memory) {
     check_texts("examples/desk/policy.txt", "examples/desk/evidence.txt", memory);
     check_texts("examples/blank_field/policy.txt", "examples/blank_field/evidence.txt", memory);
+
+    /* who joins is counted after the two users of the policy */
+    check_texts("examples/open_desk/policy.txt", "examples/open_desk/evidence.txt", memory);
 
     /* each policy of the guard pair is safe alone, and the two together are not: typing one fails on revoke rule 1 of policy two */
     struct text policy_1 = read_text("crates/cases/data/guard_a.policy"), typing_1 = read_text("crates/cases/data/guard_a.typing");
