@@ -126,14 +126,14 @@ module _ {names : List (List ℕ)} (all : Names names) where
   )
 
   -- A name that is not declared is found past all others.
-  pub undeclared-last : (field : List ℕ) → isDeclared (map packed names) field ≡ false → placed (map packed names) field ≡ length names
+  pub unknown-last : (field : List ℕ) → isDeclared (map packed names) field ≡ false → placed (map packed names) field ≡ length names
   unfolding isDeclared placed
-  undeclared-last field new =
+  unknown-last field new =
       omega (arith, place-most (map packed names) (packed field), ltb-false (placed (map packed names) field) (length (map packed names)) new, length-map names packed)
 
   -- It is not declared exactly when its bytes are those of no name,
-  pub undeclared-exact : {field : List ℕ} → isName field ≡ true → isDeclared (map packed names) field ≡ false ↔ (Listed field names → ⊥)
-  undeclared-exact {field} form = (
+  pub unknown-exact : {field : List ℕ} → isName field ≡ true → isDeclared (map packed names) field ≡ false ↔ (Listed field names → ⊥)
+  unknown-exact {field} form = (
     λ new listed. false≢true (sym new ∙ declared-exact form .1 listed),
     λ none. go (isDeclared (map packed names) field) refl none,
   )

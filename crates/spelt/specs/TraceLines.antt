@@ -31,7 +31,7 @@ use Rattle.rereading.specs.Cuts.{free, free-name}
 use Rattle.rereading.specs.Joined.{Apart}
 use Rattle.rereading.specs.Rows.{tab, newline, label-name, label-form, label-back, label-same}
 use Rattle.spelt.specs.Names.{Names}
-use Rattle.spelt.specs.NamesExact.{listed-passes, placed-exact, declared-at, declared-exact, undeclared-last, undeclared-exact, names-more}
+use Rattle.spelt.specs.NamesExact.{listed-passes, placed-exact, declared-at, declared-exact, unknown-last, unknown-exact, names-more}
 use Rattle.spelt.specs.LinesExact.{parted-fields, parted-free}
 use Rattle.spelt.specs.Numbers.{Digits, number-digits, digits-number, digits-free}
 use Rattle.spelt.specs.Trace.{StepLine, StepSpelt, assign, revoke, join, join-again, leave}
@@ -192,12 +192,12 @@ module _ (assigns revokes : ℕ) {names : List (List ℕ)} (all : Names names) w
         knows = rw known;
       }
       go false new =
-          let last = undeclared-last all name new in
+          let last = unknown-last all name new in
           let few : length names < 64 = rw (length-map names packed) at (ltb-true (length (map packed names)) 64 (rw new at within)) in
           record {
             more = names ++ (name ∷ []);
             spelt = subst⁻¹ (λ (place : ℕ). StepSpelt assigns revokes names line (Step.Join place (sameBytes label (bytes "H"))) (names ++ (name ∷ []))) last
-                (subst (λ (l : List ℕ). StepSpelt assigns revokes names l (Step.Join (length names) (sameBytes label (bytes "H"))) (names ++ (name ∷ []))) written (join (forms .0) (undeclared-exact all (forms .0) .0 new) few));
+                (subst (λ (l : List ℕ). StepSpelt assigns revokes names l (Step.Join (length names) (sameBytes label (bytes "H"))) (names ++ (name ∷ []))) written (join (forms .0) (unknown-exact all (forms .0) .0 new) few));
             knows = rw new (sym (map-append packed names (name ∷ [])));
           }
 
@@ -279,8 +279,8 @@ module _ (assigns revokes : ℕ) {names : List (List ℕ)} (all : Names names) w
   step-line (assign {line} said) = record { name = noName; is = by-fields line (step-fields all said refl) (step-is all said Step.Assign); knows = refl }
   step-line (revoke {line} said) = record { name = noName; is = by-fields line (step-fields all said refl) (step-is all said Step.Revoke); knows = refl }
   step-line (join {name} {clearance} form none few) =
-      let new = undeclared-exact all form .1 none in
-      let last = undeclared-last all name new in
+      let new = unknown-exact all form .1 none in
+      let last = unknown-last all name new in
       let room = lt-ltb (length names) 64 few in
       record {
         name = packed name;
