@@ -36,13 +36,14 @@ roleNames = namesFrom 0
 abbrev pub userNames : Part Name
 userNames = namesFrom 512
 
--- A person is three words: 2 for L and 3 for H, or 0 and 1 where the person is gone; and the roles. There is room for 64.
+-- Presence and clearance in one word: 2 for L and 3 for H, or 0 and 1 where the person is gone; and the words that say H.
 abbrev pub standing : (present clearance : Bool) → ℕ
 standing present clearance = 2 * boolByte present + boolByte clearance
 
 abbrev pub isHigh : ℕ → Bool
 isHigh word = eqb word 1 || eqb word 3
 
+-- A person is three words: that one, and the roles. There is room for 64.
 abbrev pub people : Part Person
 people = record {
   from = 768;

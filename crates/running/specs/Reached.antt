@@ -33,7 +33,7 @@ use Rattle.traces.specs.TraceText.{withName}
 use Rattle.traces.specs.TraceWalk.{After, after-header, line-last, line-bad, line-step}
 use Rattle.running.specs.declared.TraceVerdict.{TraceVerdict}
 use Rattle.running.specs.Range.{Ranged, Room, line-range}
-use Rattle.running.specs.Trying.{nextBroken, TriedNext}
+use Rattle.running.specs.Trying.{changed, nextBroken, nextPeople, TriedNext}
 use Rattle.running.specs.Joining.{withNew, saying, withPerson, saying-new, person-after, names-within, saying-limited}
 use Rattle.running.specs.TraceVerdictExact.{verdict-run, run-refused}
 use Rattle.running.specs.Verdict.{ranVerdict, traceVerdict, soFar, endVerdict}
@@ -150,28 +150,33 @@ module _ {s : Said} {c : Counts} {text : List ℕ} {at number steps stopped : �
       abbrev over : TriedNext (saying s (r .stage) (r .known) (r .state)) stopped (steps + 1) step answered (ledgerSays tried c)
       over = subst (λ (t : Said). TriedNext t stopped (steps + 1) step answered (ledgerSays tried c)) (r .says) next
 
-      abbrev entered : (stage : ℕ) × (withNew (saying s (r .stage) (r .known) (over .people)) step name ≡ saying s stage (withName (r .known) step name) (withPerson (r .known) (over .people) step))
-      entered = saying-new s (r .stage) (r .known) (over .people) step name
+      -- the people whom the step leaves
+      abbrev people-left : State
+      people-left = nextPeople stopped (possible P (r .state) step) (changed P (r .state) step) (r .state)
 
-      now-says : ledgerSays left d ≡ saying s (entered .0) (withName (r .known) step name) (withPerson (r .known) (over .people) step)
+      abbrev entered : (stage : ℕ) × (withNew (saying s (r .stage) (r .known) people-left) step name ≡ saying s stage (withName (r .known) step name) (withPerson (r .known) people-left step))
+      entered = saying-new s (r .stage) (r .known) people-left step name
+
+      now-says : ledgerSays left d ≡ saying s (entered .0) (withName (r .known) step name) (withPerson (r .known) people-left step)
+      unfolding policyOf
       now-says = enters ∙ ap (λ (t : Said). withNew t step name) (over .leaves) ∙ entered .1
 
       -- the run with the step
-      now-runs : runOf P (s .holdings) (r .said ++ (step ∷ [])) ≡ soFar answered (withPerson (r .known) (over .people) step)
-      unfolding soFar nextBroken policyOf
+      now-runs : runOf P (s .holdings) (r .said ++ (step ∷ [])) ≡ soFar answered (withPerson (r .known) people-left step)
+      unfolding soFar nextBroken nextPeople policyOf
       now-runs = go stopped refl (possible P (r .state) step) refl
         where
-          go : (n : ℕ) → stopped ≡ n → (b : Bool) → possible P (r .state) step ≡ b → runOf P (s .holdings) (r .said ++ (step ∷ [])) ≡ soFar answered (withPerson (r .known) (over .people) step)
+          go : (n : ℕ) → stopped ≡ n → (b : Bool) → possible P (r .state) step ≡ b → runOf P (s .holdings) (r .said ++ (step ∷ [])) ≡ soFar answered (withPerson (r .known) people-left step)
           go zero none true is =
               run-more P (s .holdings) (r .said) step (r .run ∙ ap (λ (n : ℕ). soFar n (r .state)) none) is
-              ∙ ap ran (sym (ap (λ (σ : State). withPerson (r .known) σ step) (over .moved none is) ∙ person-after P (r .known) (r .state) step (state-many r) is))
-              ∙ ap (λ (n : ℕ). soFar n (withPerson (r .known) (over .people) step)) (sym (over .answered ∙ (λ i. nextBroken (none i) (steps + 1) (is i))))
+              ∙ ap ran (sym ((λ i. withPerson (r .known) (nextPeople (none i) (is i) (changed P (r .state) step) (r .state)) step) ∙ person-after P (r .known) (r .state) step (state-many r) is))
+              ∙ ap (λ (n : ℕ). soFar n (withPerson (r .known) people-left step)) (sym (over .answered ∙ (λ i. nextBroken (none i) (steps + 1) (is i))))
           go zero none false is =
               run-breaks P (s .holdings) (r .said) step [] (r .run ∙ ap (λ (n : ℕ). soFar n (r .state)) none) is
-              ∙ ap (λ (n : ℕ). soFar n (withPerson (r .known) (over .people) step)) (sym (over .answered ∙ (λ i. nextBroken (none i) (steps + 1) (is i)) ∙ add-one steps ∙ ap suc (r .counted)))
+              ∙ ap (λ (n : ℕ). soFar n (withPerson (r .known) people-left step)) (sym (over .answered ∙ (λ i. nextBroken (none i) (steps + 1) (is i)) ∙ add-one steps ∙ ap suc (r .counted)))
           go (suc before) some b is =
               broken-stays P (s .holdings) (r .said) (step ∷ []) (suc before) (r .run ∙ ap (λ (n : ℕ). soFar n (r .state)) some)
-              ∙ ap (λ (n : ℕ). soFar n (withPerson (r .known) (over .people) step)) (sym (over .answered ∙ ap (λ (n : ℕ). nextBroken n (steps + 1) (possible P (r .state) step)) some))
+              ∙ ap (λ (n : ℕ). soFar n (withPerson (r .known) people-left step)) (sym (over .answered ∙ ap (λ (n : ℕ). nextBroken n (steps + 1) (possible P (r .state) step)) some))
 
       pub step-next : Reached s d text (stop + 1) (number + 1) (steps + 1) answered left
       step-next = record {
@@ -179,11 +184,11 @@ module _ {s : Said} {c : Counts} {text : List ℕ} {at number steps stopped : �
         counted = omega (arith, r .counted, length-append (r .said) (step ∷ []));
         few = omega (arith, r .few, l .sought .first);
         known = withName (r .known) step name;
-        state = withPerson (r .known) (over .people) step;
+        state = withPerson (r .known) people-left step;
         run = now-runs;
         stage = entered .0;
         says = now-says;
-        limited = saying-limited s words left c d (r .stage) (entered .0) (r .known) (withName (r .known) step name) (r .state) (withPerson (r .known) (over .people) step) (r .limited) (r .says) now-says
+        limited = saying-limited s words left c d (r .stage) (entered .0) (r .known) (withName (r .known) step name) (r .state) (withPerson (r .known) people-left step) (r .limited) (r .says) now-says
             (names-within (r .known) step name (omega (arith, known-many r, r .limited .users)) (subst (λ (n : ℕ). Room n step) (known-many r) step-room));
         after = line-step (r .after) (l .sought) (l .here) (l .is-not) given-said told;
       }

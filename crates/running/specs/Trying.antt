@@ -1,7 +1,7 @@
 -- A step tried: whether it is possible, and what is said after it; over the rows of a ledger, and over what the ledger says.
 use Prim.Native.Nat.{ℕ, zero, suc, _+_, _*_, _≤_, _<_}
 use borrow.Author.Tests.{lt-ltb}
-use mathlib.Core.Bool.{Bool, true, false, cond, false≢true}
+use mathlib.Core.Bool.{Bool, true, false, cond}
 use mathlib.Core.List.{List}
 use mathlib.Core.Logic.{inl, inr}
 use mathlib.Core.Path.{_≡_, refl, sym, ap, _∙_}
@@ -74,44 +74,42 @@ unfoldable pub nextBroken : (broken number : ℕ) (is-possible : Bool) → ℕ
 nextBroken zero number is-possible = cond is-possible 0 number
 nextBroken (suc before) number is-possible = suc before
 
+-- The people then: those whom the step changed, where it and every step before it is one, and else those who were there.
+unfoldable pub nextPeople : (broken : ℕ) (is-possible : Bool) (changed stay : State) → State
+nextPeople zero is-possible changed stay = cond is-possible changed stay
+nextPeople (suc before) is-possible changed stay = stay
+
 -- The step with a number is tried, unless a step before it was none.
 pub record TriedNext (s : Said) (broken number : ℕ) (step : Step) (answer : ℕ) (left : Said) : Type 0 where
   pub answered : answer ≡ nextBroken broken number (possible (policyOf s) (s .holdings) step)
-  -- the people that are left, which count only where every step so far is one
-  pub people : State
-  pub leaves : left ≡ sayHoldings people s
-  pub moved : broken ≡ 0 → possible (policyOf s) (s .holdings) step ≡ true → people ≡ changed (policyOf s) (s .holdings) step
+  pub leaves : left ≡ sayHoldings (nextPeople broken (possible (policyOf s) (s .holdings) step) (changed (policyOf s) (s .holdings) step) (s .holdings)) s
 
 -- a step before it was none; it is one; it is none
 module _ {s : Said} {broken : ℕ} (number : ℕ) (step : Step) where
   pub next-past : (broken ≡ 0 → ⊥) → TriedNext s broken number step broken s
-  unfolding nextBroken
-  next-past some = record { answered = go broken some; people = s .holdings; leaves = refl; moved = λ none is. absurd (some none) }
+  unfolding nextBroken nextPeople
+  next-past some = go broken some
     where
-      go : (n : ℕ) → (n ≡ 0 → ⊥) → n ≡ nextBroken n number (possible (policyOf s) (s .holdings) step)
+      go : (n : ℕ) → (n ≡ 0 → ⊥) → TriedNext s n number step n s
       go zero positive = absurd (positive refl)
-      go (suc before) positive = refl
+      go (suc before) positive = record { answered = refl; leaves = refl }
 
   module _ {may : Bool} {left : Said} (none : broken ≡ 0) (tried : Tried s step may left) where
-    answered-as : {b : Bool} → may ≡ b → cond b 0 number ≡ nextBroken broken number (possible (policyOf s) (s .holdings) step)
-    unfolding nextBroken
-    answered-as is = ap (λ (b : Bool). cond b 0 number) (sym is ∙ tried .answered) ∙ sym (ap (λ (n : ℕ). nextBroken n number (possible (policyOf s) (s .holdings) step)) none)
+    tried-as : {b : Bool} → may ≡ b → TriedNext s broken number step (cond b 0 number) left
+    unfolding nextBroken nextPeople
+    tried-as {b} is =
+        let moved = changed (policyOf s) (s .holdings) step in
+        let same : possible (policyOf s) (s .holdings) step ≡ b = sym (tried .answered) ∙ is in
+        record {
+          answered = sym (λ i. nextBroken (none i) number (same i));
+          leaves = tried .leaves ∙ ap (λ (x : Bool). sayHoldings (cond x moved (s .holdings)) s) is ∙ sym (λ i. sayHoldings (nextPeople (none i) (same i) moved (s .holdings)) s);
+        }
 
     pub next-goes : may ≡ true → TriedNext s broken number step 0 left
-    next-goes is = record {
-      answered = answered-as is;
-      people = changed (policyOf s) (s .holdings) step;
-      leaves = tried .leaves ∙ ap (λ (b : Bool). sayHoldings (cond b (changed (policyOf s) (s .holdings) step) (s .holdings)) s) is;
-      moved = λ z p. refl;
-    }
+    next-goes is = tried-as is
 
     pub next-breaks : may ≡ false → TriedNext s broken number step number left
-    next-breaks is = record {
-      answered = answered-as is;
-      people = s .holdings;
-      leaves = tried .leaves ∙ ap (λ (b : Bool). sayHoldings (cond b (changed (policyOf s) (s .holdings) step) (s .holdings)) s) is;
-      moved = λ z p. absurd (false≢true (sym is ∙ tried .answered ∙ p));
-    }
+    next-breaks is = tried-as is
 
 -- the policy and the state that a ledger says by its counts
 abbrev policyIn : List ℕ → Counts → Policy

@@ -87,7 +87,7 @@ stepSaid names other = Step.Assign 0 0 0
 
 -- The name that a join brings; any other line brings the name of no bytes.
 abbrev pub noName : Name
-noName = record { first = 0; second = 0; third = 0; fourth = 0 }
+noName = packed []
 
 unfoldable pub nameBrought : Line → Name
 nameBrought (assign actor number user) = noName
