@@ -29,7 +29,7 @@ pub record Passed (said : Turned) (before pair : Pair) : Type 0 where
 -- ---- unions
 
 -- a union in another order
-union-swap : (s t u : RoleSet) → unionOf (unionOf s t) u ≡ unionOf (unionOf s u) t
+pub union-swap : (s t u : RoleSet) → unionOf (unionOf s t) u ≡ unionOf (unionOf s u) t
 union-swap s t u = union-assoc s t u ∙ ap (unionOf s) (union-comm t u) ∙ sym (union-assoc s u t)
 
 -- what a set has already adds nothing

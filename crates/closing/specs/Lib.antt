@@ -2,6 +2,8 @@
 pub mod Rounds
 pub mod Steps
 pub mod Fresh
+pub mod Apart
+pub mod News
 pub mod Counting
 pub mod Clauses
 pub mod Growth
