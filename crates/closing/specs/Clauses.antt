@@ -11,7 +11,7 @@ use Rattle.roles.specs.MemberLaws.{empty_none, union_cases, union_left, union_ri
 use Rattle.model.specs.declared.Typing.{Typing as Table}
 use Rattle.model.specs.Typing.{Typing}
 use Rattle.model.specs.Meaning.{meaning}
-use Rattle.model.specs.Closure.{Closed}
+use Rattle.model.proofs.Closure.{Closed}
 use Rattle.sheets.specs.Turned.{own_below, named_below, sets_of, turned_of}
 use Rattle.sheets.specs.Members.{below_exact, sets_exact, below_sized, sets_sized}
 use Rattle.closing.specs.declared.Pair.{Pair}

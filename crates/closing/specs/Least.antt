@@ -10,7 +10,7 @@ use Rattle.roles.specs.MemberLaws.{below}
 use Rattle.model.specs.declared.Typing.{Typing as Table}
 use Rattle.model.specs.Typing.{Held, Absent}
 use Rattle.model.specs.Meaning.{meaning}
-use Rattle.model.specs.Closure.{Closed, closure_closed, held_least, absent_least}
+use Rattle.model.proofs.Closure.{Closed, closure_closed, held_least, absent_least}
 use Rattle.sheets.specs.Turned.{turned_of}
 use Rattle.closing.specs.declared.Pair.{Pair}
 use Rattle.closing.specs.Rounds.{round_of, same_pair, rounds_of, close_of}

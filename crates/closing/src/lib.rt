@@ -1,4 +1,6 @@
 // The closure of a pair of role sets under a typing, by rounds until nothing changes.
+#![tactic(auto)]
+
 ghost use Rattle.std.specs.Prelude.{◌≡◌};
 ghost use Rattle.sheets.specs.Words.{said_in};
 ghost use Rattle.closing.specs.Rounds.{close_of};
@@ -7,7 +9,7 @@ use roles::RoleSet;
 use sheets::{Column, sets_of};
 
 // A pair of role sets: roles known to be held, roles known to be absent.
-#[derive(Drop)]
+#[derive(Clone, Copy)]
 pub struct Pair {
     pub held: RoleSet,
     pub absent: RoleSet,

@@ -3,6 +3,8 @@
 // The names are taken in blocks: the names of a block are put into a tree, and the later names are only looked up in it.
 // A number mixed from a name's bytes says under which head of the tree it stands, so that few names stand under one head.
 // They are told apart byte by byte, so that even a text all of whose names stand under one head does not make the time quadratic.
+#![tactic(auto)]
+
 ghost use Rattle.std.specs.Prelude.{suc, ◌<◌, ◌≤◌, length, get_or, [], ◌≡◌};
 ghost use Rattle.text.specs.Pieces.{split, repeated};
 ghost use Rattle.distinct.specs.Names.{symbol, before};
@@ -10,7 +12,7 @@ ghost use Rattle.distinct.specs.Tree.{Tree, Planted, Blank};
 ghost use Rattle.distinct.specs.Answers.{Laid, Named, Searched, Filled, Met, Parted};
 
 // Where a name ends, and the head of the tree under which it stands.
-#[derive(Drop)]
+#[derive(Clone, Copy)]
 struct Name {
     end: usize,
     head: usize,
@@ -18,7 +20,7 @@ struct Name {
 
 // What looking a name up in the tree gives: it is found, or missing, with the slot whose link would have it found and the
 // place to which that link would lead.
-#[derive(Drop)]
+#[derive(Clone, Copy)]
 enum Search {
     Found,
     Missing(usize, usize),

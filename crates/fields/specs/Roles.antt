@@ -18,7 +18,7 @@ module _ (names : List Name) where
   pub role_kept : {s : RoleSet} (fields : List (List ℕ)) {role : ℕ} → role ∈ s → role ∈ roles_from names s fields
   unfolding roles_from
   role_kept [] found = found
-  role_kept (field ∷ rest) found = role_kept rest (with_old (placed names field) found)
+  role_kept {s = s} (field ∷ rest) {role = role} found = role_kept {s = with_of s (placed names field)} rest (with_old (placed names field) found)
 
   -- any other is at the place of a name, so it passes a test that all the places pass
   role_cases : (test : ℕ → Bool) (s : RoleSet) (fields : List (List ℕ)) → every (λ field. test (placed names field)) fields ≡ true → {role : ℕ} → role ∈ roles_from names s fields → (role ∈ s) ⊎ (test role ≡ true)

@@ -1,5 +1,5 @@
 -- A set field read name by name: the roles so far tell a repeat among declared names.
-use Rattle.std.specs.Prelude.{ℕ, ◌+◌, ◌-◌, ◌≤◌, ◌<◌, Bool, true, false, ◌&&◌, ◌||◌, ◌≡◌, refl, eqb, length, take, drop}
+use Rattle.std.specs.Prelude.{ℕ, ◌≤◌, ◌<◌, Bool, true, false, ◌&&◌, ◌||◌, ◌≡◌, refl, eqb, length, take, drop}
 use Rattle.std.proofs.Math.Bool.{cond, not, and-eq-true_iff, and-false, or-false}
 use Rattle.std.proofs.lemmas.Bool.{false≢true}
 use Rattle.std.proofs.Common.{true≢false, ◌∙◌, subst, eq-eqb, ne_eqb, ltb-true, arith}

@@ -1,4 +1,6 @@
 // One field of a line: a name or a set of names against the names above, and what is wrong with it.
+#![tactic(auto)]
+
 ghost use Rattle.std.specs.Prelude.{◌≡◌, ◌*◌, ◌≤◌, max, length, true, false};
 ghost use Rattle.text.specs.Forms.{bytes, every, is_name};
 ghost use Rattle.tables.specs.Names.{rows};
@@ -8,14 +10,14 @@ ghost use Rattle.fields.specs.Fields.{name_read, set_read, are_set, malformed_se
 use roles::RoleSet;
 
 // A name field: the fault, 2 malformed, 1 undeclared, 0 none, and the name's place.
-#[derive(Drop)]
+#[derive(Clone, Copy)]
 pub struct NameRead {
     pub fault: u8,
     pub place: usize,
 }
 
 // A set field: the fault as for a name, and the roles.
-#[derive(Drop)]
+#[derive(Clone, Copy)]
 pub struct SetRead {
     pub fault: u8,
     pub roles: RoleSet,

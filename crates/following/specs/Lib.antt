@@ -1,3 +1,2 @@
 -- The steps of a trace as uses of a policy's rules, and that going through a trace is exact against them.
 pub mod Follows
-pub mod FollowsExact

@@ -1,4 +1,6 @@
 // A policy laid out in words, so that it can be lent: its names, people, rules and goals, each in a part of its own, read and stored row by row.
+#![tactic(auto)]
+
 ghost use Rattle.std.specs.Prelude.{◌≡◌, ◌+◌, ◌≤◌, ◌<◌, length};
 ghost use Rattle.std.proofs.lemmas.List.Edits.{sets};
 ghost use Rattle.ledgers.specs.Parts.{row_at, stored};

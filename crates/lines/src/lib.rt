@@ -1,4 +1,6 @@
 // One line of a policy: its fields, what is wrong with it, and the entry that it makes.
+#![tactic(auto)]
+
 ghost use Rattle.std.specs.Prelude.{◌≡◌, ◌*◌, ◌≤◌, length, List};
 ghost use Rattle.tables.specs.declared.Name.{Name};
 ghost use Rattle.tables.specs.Names.{rows};
@@ -27,7 +29,7 @@ pub const GOAL: usize = 70;
 pub const END: usize = 80;
 
 // How far a policy was read: the kind of the last line, 0 before the header, and how many of each kind there are.
-#[derive(Drop)]
+#[derive(Clone, Copy)]
 pub struct Counts {
     pub stage: usize,
     pub roles: usize,
@@ -38,7 +40,7 @@ pub struct Counts {
 }
 
 // What a good line says. A user or a role of a `has` line is its place, from 0; a clearance is true for H.
-#[derive(Drop)]
+#[derive(Clone, Copy)]
 pub enum Entry {
     Header,
     Role(Name),
@@ -51,7 +53,7 @@ pub enum Entry {
 }
 
 // A line's answer: what it says, or the refusal's number.
-#[derive(Drop)]
+#[derive(Clone, Copy)]
 pub enum PolicyLine {
     Good(Entry),
     Bad(u64),

@@ -3,9 +3,3 @@ pub mod Policy
 pub mod Sized
 pub mod Typing
 pub mod Meaning
-pub mod Closure
-pub mod States
-pub mod Gone
-pub mod Safety
-pub mod Sum
-pub mod Witness

@@ -1,11 +1,13 @@
 // The records that policies, states and typings are made of.
+#![tactic(auto)]
+
 ghost use Rattle.std.specs.Prelude.{◌≡◌};
 ghost use Rattle.model.specs.Policy.{newcomer, with_roles, with_role, without_role, leaver};
 
 use roles::RoleSet;
 
 // An actor who holds `admin` gives `target` to a user who holds all of `positive`, none of `negative` and not yet `target`.
-#[derive(Drop)]
+#[derive(Clone, Copy)]
 pub struct Assign {
     pub admin: usize,
     pub positive: RoleSet,
@@ -14,14 +16,14 @@ pub struct Assign {
 }
 
 // An actor who holds `admin` takes `target` from a user who holds it.
-#[derive(Drop)]
+#[derive(Clone, Copy)]
 pub struct Revoke {
     pub admin: usize,
     pub target: usize,
 }
 
 // A user's clearance, true for H and false for L, whether the user is present, and the roles that the user holds.
-#[derive(Drop)]
+#[derive(Clone, Copy)]
 pub struct Person {
     pub clearance: bool,
     pub present: bool,
@@ -78,7 +80,7 @@ impl Person {
 }
 
 // A typing by role number: a label, true for H, a plus set and a minus set for each role.
-#[derive(Drop)]
+#[derive(Clone, Copy)]
 pub struct Typing {
     pub labels: [bool; 128],
     pub plus: [RoleSet; 128],

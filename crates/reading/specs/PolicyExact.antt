@@ -16,7 +16,7 @@ use Rattle.walking.specs.TurnLaws.{turn_cases, turn_fails, turn_passes}
 use Rattle.reading.specs.Policy.{Said, nothing, counts_of, kind_of, added, is_new, leads, line_asked, line_tests, judge_line, read_policy}
 use Rattle.walking.specs.Meaning.{LineAt, ReadAs, Refusal}
 use Rattle.walking.specs.MeaningLaws.{refusal_exact, read_exact}
-use Rattle.reading.specs.PolicyRefusals.{AboveLimit, EndLine, Fault, Good, Malformed, PolicyReadAs, PolicyRefusal, Repeated, Undeclared, above_limit, after_end, fields, form, formed, known, malformed, no_end, pair, too_long, undeclared, within}
+use Rattle.reading.specs.PolicyRefusals.{AboveLimit, EndLine, Fault, Good, Malformed, PolicyReadAs, PolicyRefusal, Repeated, Undeclared, above_limit, after_end, fields, form, malformed, no_end, pair, too_long, undeclared}
 
 -- ---- the line `end`, by its bytes and by its fields
 

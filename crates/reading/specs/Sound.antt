@@ -1,5 +1,5 @@
 -- That every policy that is read is sound.
-use Rattle.std.specs.Prelude.{ℕ, ◌+◌, ◌≤◌, ◌<◌, true, not, ◌&&◌, ◌≡◌, refl, length}
+use Rattle.std.specs.Prelude.{ℕ, ◌≤◌, ◌<◌, true, not, ◌&&◌, ◌≡◌, refl, length}
 use Rattle.std.proofs.Common.{zero-le, ⊎_elim, subst, ◌∙◌, ltb-true, ltb-false, length-append, length-set, arith}
 use Rattle.std.proofs.Math.Bool.{and-eq-true_iff}
 use mathlib.Core.List.Memᴰ.{not-nil}

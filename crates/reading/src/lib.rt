@@ -1,4 +1,6 @@
 // Policy texts, read line by line into a ledger.
+#![tactic(auto)]
+
 ghost use Rattle.std.specs.Prelude.{◌≡◌, ◌≤◌, length};
 ghost use Rattle.ledgers.specs.Ledger.{ledger_words};
 ghost use Rattle.lines.specs.Lines.{code_of};
@@ -14,7 +16,7 @@ pub mod entering;
 
 // What reading a policy text answers: the refusal's number and line, 0 and 0 where the text is read, and the counts of the policy,
 // which are those of no lines where the text is refused.
-#[derive(Drop)]
+#[derive(Clone, Copy)]
 pub struct PolicyRead {
     pub refusal: u64,
     pub line: usize,

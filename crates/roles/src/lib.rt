@@ -1,9 +1,11 @@
 // A set of at most 128 roles in two 64-bit words: masks for union, meeting and inclusion, a shift for one role.
+#![tactic(auto)]
+
 ghost use Rattle.std.specs.Prelude.{◌≡◌, min};
 ghost use Rattle.roles.specs.Sets.{empty_set, single_of, union_of, meet_of, with_of, apart_of, without_of, has_role, shares_role, includes, same_set, size_of, lowest_role};
 
 // Bit r of `low` is role r, bit r of `high` is role 64 + r.
-#[derive(Drop)]
+#[derive(Clone, Copy)]
 pub struct RoleSet {
     pub low: u64,
     pub high: u64,

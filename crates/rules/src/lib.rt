@@ -1,4 +1,6 @@
 // Each typing rule as a test of what a typing's sheet says: a person, an assign rule, a revoke rule, a goal.
+#![tactic(auto)]
+
 ghost use Rattle.std.specs.Prelude.{◌≡◌};
 ghost use Rattle.sheets.specs.Words.{said_in};
 ghost use Rattle.rules.specs.Tests.{inconsistent_role, person_passes, target_suits, assign_passes, revoke_passes, goal_passes};

@@ -1,5 +1,5 @@
 -- Which roles the sets of a typing turned round have, and that their words stay words of 64 bits.
-use Rattle.std.specs.Prelude.{ℕ, zero, suc, ◌-◌, ◌≤◌, ◌<◌, Bool, true, false, ◌⊎◌, ◌↔◌, ◌≡◌, refl}
+use Rattle.std.specs.Prelude.{ℕ, zero, suc, ◌≤◌, ◌<◌, Bool, true, false, ◌⊎◌, ◌↔◌, ◌≡◌, refl}
 use Rattle.std.proofs.Common.{inl, inr, ⊎_elim, arith}
 use Rattle.std.proofs.Math.Decide.{dec_lt}
 use Rattle.roles.specs.declared.RoleSet.{RoleSet}

@@ -1,4 +1,6 @@
 // A typing laid out in words, so that it can be lent: the roles labelled H, each role's sets, and whose sets name the role.
+#![tactic(auto)]
+
 ghost use Rattle.std.specs.Prelude.{◌≡◌, ◌≤◌, ◌<◌, cond, eqb, replicate};
 ghost use Rattle.roles.specs.Sets.{has_role, single_of};
 ghost use Rattle.sheets.specs.Turned.{add_if, sets_of, turned_of};
@@ -10,7 +12,7 @@ use roles::{RoleSet, smaller};
 
 // A sheet is an array of words, two to a set: the roles labelled H, and then a row for each role, with its plus set, its minus set, the
 // roles that have it in their plus set and those that have it in their minus set.
-#[derive(Drop)]
+#[derive(Clone, Copy)]
 pub enum Column {
     Plus,
     Minus,

@@ -3,8 +3,6 @@ pub mod First
 pub mod Tests
 pub mod Traces
 pub mod Places
-pub mod PlaceLaws
 pub mod Runs
 pub mod StepExact
 pub mod Bad
-pub mod BadLaws

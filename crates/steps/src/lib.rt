@@ -1,4 +1,6 @@
 // One step of a run as tests over the records, and the answer of who is bad in a state.
+#![tactic(auto)]
+
 ghost use Rattle.std.specs.Prelude.{◌≡◌};
 ghost use Rattle.steps.specs.Tests.{may_assign, may_revoke};
 
@@ -6,7 +8,7 @@ use model::{Assign, Person, Revoke};
 
 // A step of a trace, all its numbers places from 0: an assign step or a revoke step, with its actor, rule number and user; somebody
 // joins, with a clearance; a user leaves. The place of who joins is that of the name, and the next one where the name is new.
-#[derive(Drop)]
+#[derive(Clone, Copy)]
 pub enum Step {
     Assign {
         actor: usize,
@@ -28,7 +30,7 @@ pub enum Step {
 }
 
 // A user's number and a goal's number, both from 1; 0 where there is none.
-#[derive(Drop)]
+#[derive(Clone, Copy)]
 pub struct Found {
     pub user: usize,
     pub goal: usize,

@@ -1,9 +1,11 @@
 // A name packed into four words, and tables of names: packing, a name at a place, its place in a table.
+#![tactic(auto)]
+
 ghost use Rattle.std.specs.Prelude.{◌≡◌, ◌+◌, ◌*◌, ◌≤◌, ◌<◌, length, take, drop};
 ghost use Rattle.tables.specs.Names.{value, packed, same_name, place_of, name_at, row_of, rows};
 
 // A name of at most 32 bytes, eight to a word, the first lowest, and zeros past its end.
-#[derive(Drop)]
+#[derive(Clone, Copy)]
 pub struct Name {
     pub first: u64,
     pub second: u64,

@@ -3,7 +3,7 @@ use Rattle.std.specs.Prelude.{ℕ, zero, suc, ◌+◌, ◌-◌, ◌≤◌, ◌<�
 use Rattle.std.proofs.Math.Bool.{and-true, and_assoc, and-eq-true_iff}
 use Rattle.std.proofs.lemmas.Bool.{false≢true, not-true, lt-leb}
 use Rattle.std.proofs.Common.{sym, ap, ◌∙◌, leb-true, le-leb, length-drop, take-append-drop, drop-cons, drop-drop, take_all, arith}
-use Rattle.bytes.specs.Bytes.{index_of, index_after}
+use Rattle.text.specs.Index.{index_of, index_after}
 use Rattle.text.specs.Forms.{every}
 use Rattle.text.specs.FormLaws.{every_more, every_take, every_drop}
 use Rattle.text.specs.Pieces.{Sought}

@@ -4,7 +4,7 @@ use Rattle.std.proofs.Common.{zero-le, append_assoc, append-nil, sym, ap, ap₂,
 use Rattle.std.proofs.lemmas.Bool.{false≢true}
 use Rattle.std.proofs.Math.Bool.{and-eq-true_iff}
 use Rattle.std.proofs.Math.Decide.{dec_lt}
-use Rattle.bytes.specs.Bytes.{index_of, index_after}
+use Rattle.text.specs.Index.{index_of, index_after}
 use Rattle.text.specs.Pieces.{Sought, onto, part, parted, same_bytes, split}
 
 -- ---- cutting at the first separator

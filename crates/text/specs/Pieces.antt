@@ -1,6 +1,6 @@
 -- The pieces between separators: lines between LFs, fields between tabs, names between commas.
 use Rattle.std.specs.Prelude.{ℕ, ◌+◌, ◌-◌, ◌≤◌, Bool, true, false, cond, ◌&&◌, ◌||◌, List, [], ◌∷◌, ◌++◌, ◌≡◌, eqb, length, take, drop}
-use Rattle.bytes.specs.Bytes.{index_of}
+use Rattle.text.specs.Index.{index_of}
 
 -- one byte more in the first piece
 unfoldable pub onto : ℕ → List (List ℕ) → List (List ℕ)

@@ -1,4 +1,6 @@
 // Bytes: a separator sought, two byte strings compared, and the form of a name, a label and a number.
+#![tactic(auto)]
+
 ghost use Rattle.std.specs.Prelude.{◌≡◌, ◌+◌, ◌≤◌, length, take, drop};
 ghost use Rattle.text.specs.Forms.{every, is_name, is_label, name_byte, number_of};
 ghost use Rattle.text.specs.Eights.{eight_clear};
@@ -23,6 +25,21 @@ fn clear(s: &[u8], at: usize, mark: u8) -> bool
         & (s[at + 7] != mark)
 }
 
+// The place of the first `mark` from a place on, or the end where there is none, looked for one by one.
+fn find(s: &[u8], from: usize, mark: u8) -> usize
+    requires { from ≤ length s.now }
+    ensures { Sought s.now from mark result }
+{
+    let mut at = from;
+    while at < s.len() {
+        if s[at] == mark {
+            return at;
+        }
+        at += 1;
+    }
+    at
+}
+
 // The place of the first `mark` from a place on, or the end where there is none.
 pub fn seek(s: &[u8], from: usize, mark: u8) -> usize
     requires { from ≤ length s.now }
@@ -32,14 +49,14 @@ pub fn seek(s: &[u8], from: usize, mark: u8) -> usize
     while clear(s, at, mark) {
         at += 8;
     }
-    bytes::scan::find(s, at, s.len(), mark)
+    find(s, at, mark)
 }
 
 // Whether two byte strings are the same.
 pub fn same(a: &[u8], b: &[u8]) -> bool
     ensures { result ≡ same_bytes a.now b.now }
 {
-    check::same(a, b)
+    a == b
 }
 
 // Whether a byte string begins with another.

@@ -1,4 +1,6 @@
 // The lines of a trace text, read over the user names that are known and the policy's rule counts.
+#![tactic(auto)]
+
 ghost use Rattle.std.specs.Prelude.{◌≡◌, ◌*◌, ◌-◌, ◌≤◌, length};
 ghost use Rattle.tables.specs.Names.{rows};
 ghost use Rattle.walking.specs.Turns.{in_turn};
@@ -11,7 +13,7 @@ use steps::Step;
 use tables::Name;
 
 // A step line's answer: the step and, for a join, the name; or the refusal's number.
-#[derive(Drop)]
+#[derive(Clone, Copy)]
 pub enum TraceLine {
     Step(Step, Name),
     Bad(u64),

@@ -1,7 +1,7 @@
 -- That the first line is a typing's header is seen in the first nine bytes.
 use Rattle.std.specs.Prelude.{ℕ, ◌-◌, ◌≤◌, ◌<◌, Bool, true, false, List, [], ◌∷◌, ◌++◌, ◌≡◌, refl, eqb, length, take, drop}
 use Rattle.std.proofs.Common.{sym, ap, ◌∙◌, eqb-true, length-append, take-append-drop, arith}
-use Rattle.bytes.specs.Bytes.{index_of, index_after}
+use Rattle.text.specs.Index.{index_of, index_after}
 use Rattle.text.specs.Forms.{bytes}
 use Rattle.text.specs.Pieces.{part, same_bytes}
 use Rattle.text.specs.PieceLaws.{same_equal, equal_same, same_answer}

@@ -1,6 +1,6 @@
 -- The kind of a piece of evidence, by its first line (document 01, "The texts").
 use Rattle.std.specs.Prelude.{ℕ, Bool, List}
-use Rattle.bytes.specs.Bytes.{index_of}
+use Rattle.text.specs.Index.{index_of}
 use Rattle.text.specs.Forms.{bytes}
 use Rattle.text.specs.Pieces.{part, same_bytes}
 

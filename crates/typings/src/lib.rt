@@ -1,4 +1,6 @@
 // A typing text, read line by line over the policy's role names.
+#![tactic(auto)]
+
 ghost use Rattle.std.specs.Prelude.{◌≡◌, ◌*◌, ◌≤◌, length, List};
 ghost use Rattle.tables.specs.declared.Name.{Name};
 ghost use Rattle.tables.specs.Names.{rows};
@@ -14,7 +16,7 @@ use model::Typing;
 use roles::RoleSet;
 
 // What a good line says: a row's label is true for H.
-#[derive(Drop)]
+#[derive(Clone, Copy)]
 pub enum TypingEntry {
     Header,
     Row(bool, RoleSet, RoleSet),
@@ -22,14 +24,14 @@ pub enum TypingEntry {
 }
 
 // A line's answer: what it says, or the refusal's number.
-#[derive(Drop)]
+#[derive(Clone, Copy)]
 pub enum TypingLine {
     Good(TypingEntry),
     Bad(u64),
 }
 
 // What reading a typing gives: the refusal's number and line, 0 where the text is read, and then the typing.
-#[derive(Drop)]
+#[derive(Clone, Copy)]
 pub struct TypingRead {
     pub refusal: u64,
     pub line: usize,

@@ -51,9 +51,9 @@ module _ {S : Type 0} (judge : S → List ℕ → Judged S) (malformed long : �
   -- from a line on, all above it good
   means_left : {n : ℕ} {s : S} {left : List ℕ} → length text ≤ 32768 → Lines left → Above judge start text n s left → Means (read_lines judge malformed s n (split LF left))
   unfolding Means onward
-  means_left {n} {s} fits (tail u) above = subst⁻¹ Means (lines_end judge malformed s n (one_piece u)) (no_end fits above u)
-  means_left {n} {s} fits (line {bytes} {rest} u lines) above =
-      subst⁻¹ Means (lines_next judge malformed s n rest (line_piece u rest)) (go (judge s bytes) refl (λ t good. means_left fits lines (next above u good)))
+  means_left {n = n} {s = s} fits (tail u) above = subst⁻¹ Means (lines_end judge malformed s n (one_piece u)) (no_end fits above u)
+  means_left {n = n} {s = s} fits (line {bytes} {rest} u lines) above =
+      subst⁻¹ Means (lines_next judge malformed s n rest (line_piece u rest)) (go (judge s bytes) refl (λ t good. means_left {n = suc n} {s = t} fits lines (next above u good)))
     where
       closed : (after : List ℕ) → Above judge start text n s (bytes ++ (LF ∷ after)) → judge s bytes ≡ ends → Means (closing judge malformed s (suc n) (split LF after))
       closed [] at is = subst⁻¹ Means (closing_none judge malformed s (suc n) [] refl) (record { number = n; line = bytes; last = record { fits = fits; above = at; unbroken = u }; is_end = is })

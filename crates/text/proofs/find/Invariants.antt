@@ -1,0 +1,10 @@
+-- `find` goes through the bytes one by one; the invariant: what is sought from here on is sought from the start.
+use Rattle.std.proofs.Common.{ℕ, ◌-◌, ◌≤◌, length}
+use Rattle.text.specs.Pieces.{Sought}
+use Rattle.text.proofs.find.Given as goal
+
+abbrev pub invariant-loop-at : goal.invariant-loop-at
+invariant-loop-at l = (l.at ≤ length l.s) × ((place : ℕ) → Sought l.s l.at l.mark place → Sought l.s l.from l.mark place)
+
+abbrev pub decreases-loop-at : goal.decreases-loop-at
+decreases-loop-at l = length l.s - l.at

@@ -1,0 +1,15 @@
+-- `in_turn` goes by the two flags, one after the other.
+use Rattle.walking.specs.Turns.{in_turn}
+use Rattle.typings.proofs.in_turn.Goals as goal
+
+pub returns-then-not-formed : goal.returns-then-not-formed
+unfolding in_turn
+returns-then-not-formed c = rw c.if-not-formed.true
+
+pub returns-then-not-known : goal.returns-then-not-known
+unfolding in_turn
+returns-then-not-known c = rw (c.if-not-formed.false, c.if-not-known.true)
+
+pub returns : goal.returns
+unfolding in_turn
+returns c = rw (c.if-not-formed.false, c.if-not-known.false)
