@@ -20,7 +20,7 @@ use Rattle.ledgers.specs.LedgerLaws.{roles-rows, users_lent}
 use Rattle.lines.specs.declared.Counts.{Counts}
 use Rattle.lines.specs.declared.Entry.{Entry}
 use Rattle.reading.specs.Ledger.{ledger_says}
-use Rattle.writing.specs.Buffers.{from}
+use Rattle.writing.proofs.Buffers.{from}
 use Rattle.spelling.specs.Growth.{Grows}
 use Rattle.drafting.specs.declared.Block.{Block}
 use Rattle.inscribing.specs.LineText.{line_text, lines_text}

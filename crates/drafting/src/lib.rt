@@ -1,4 +1,6 @@
 // A policy written as text into a lent buffer, a block of lines after another.
+#![tactic(auto)]
+
 ghost use Rattle.std.specs.Prelude.{◌≡◌, ◌≤◌, length};
 ghost use Rattle.ledgers.specs.Ledger.{ledger_words};
 ghost use Rattle.reading.specs.Ledger.{Limited, ledger_says};
@@ -12,7 +14,7 @@ use lines::{Counts, Entry};
 pub mod blocks;
 
 // A block of lines: those of one kind.
-#[derive(Drop)]
+#[derive(Clone, Copy)]
 pub enum Block {
     Roles,
     Users,

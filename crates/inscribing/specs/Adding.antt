@@ -2,7 +2,7 @@
 use Rattle.std.specs.Prelude.{ℕ, ◌+◌, ◌≤◌, ◌<◌, List, [], ◌++◌, ◌≡◌, refl, length, set}
 use Rattle.std.proofs.Common.{length-append, arith}
 use Rattle.writing.specs.Written.{put}
-use Rattle.writing.specs.Buffers.{from, back, wrote, written, wrote_none, wrote_more}
+use Rattle.writing.proofs.Buffers.{from, back, wrote, written, wrote_none, wrote_more}
 use Rattle.showing.specs.Fields.{field}
 use Rattle.showing.specs.Steps.{Goes, goes_none, goes_both, goes_field}
 use Rattle.spelling.specs.Growth.{Grows, piece_room}

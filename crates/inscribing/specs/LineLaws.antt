@@ -10,7 +10,7 @@ use Rattle.tables.specs.Names.{name_at, rows}
 use Rattle.ledgers.specs.LedgerLaws.{roles-rows, users_lent}
 use Rattle.lines.specs.declared.Entry.{Entry}
 use Rattle.writing.specs.Written.{spelled}
-use Rattle.writing.specs.Buffers.{from}
+use Rattle.writing.proofs.Buffers.{from}
 use Rattle.showing.specs.Fields.{field}
 use Rattle.spelling.specs.TypingText.{set_text, label_text}
 use Rattle.lines.specs.declared.Counts.{Counts}

@@ -1,4 +1,6 @@
 // The line of an entry, written field after field from a place of a lent buffer on, in the room that it takes.
+#![tactic(auto)]
+
 ghost use Rattle.std.specs.Prelude.{[], ◌∷◌, ◌++◌, ◌≡◌, ◌+◌, ◌*◌, ◌≤◌, length};
 ghost use Rattle.ledgers.specs.Ledger.{ledger_words};
 ghost use Rattle.lines.specs.declared.Entry.{Entry};

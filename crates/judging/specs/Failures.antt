@@ -2,7 +2,6 @@
 use Rattle.std.specs.Prelude.{ℕ, ◌+◌, ◌≡◌, length}
 use mathlib.Core.List.{Memᴰ as Listed, List, ◌∷◌, ◌++◌}
 use Rattle.model.specs.declared.Assign.{Assign}
-use Rattle.model.specs.declared.Revoke.{Revoke}
 use Rattle.model.specs.Policy.{Policy, State}
 use Rattle.model.specs.Typing.{Typing, closure, AssignPasses, RevokePasses, WellTyped, HoldingsPass, GoalPasses, RulesPass}
 use Rattle.judging.specs.declared.Part.{Part}

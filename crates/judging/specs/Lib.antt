@@ -5,4 +5,3 @@ pub mod Failures
 pub mod Failing
 pub mod Order
 pub mod TypingVerdictExact
-pub mod Pinned

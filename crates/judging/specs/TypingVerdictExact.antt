@@ -15,7 +15,7 @@ use Rattle.sheets.specs.Turned.{turned_of}
 use Rattle.rules.specs.Tests.{person_passes, assign_passes, revoke_passes, goal_passes}
 use Rattle.rules.specs.RuleExact.{Laid, person_exact, assign_exact, revoke_exact, goal_exact}
 use Rattle.reading.specs.Policy.{Said, policy_of}
-use Rattle.steps.specs.PlaceLaws.{at_inside, at_stands, stands_at, at_listed, listed_at}
+use Rattle.steps.proofs.PlaceLaws.{at_inside, at_stands, stands_at, at_listed, listed_at}
 use Rattle.judging.specs.declared.Part.{Part}
 use Rattle.judging.specs.declared.TypingVerdict.{TypingVerdict}
 use Rattle.judging.specs.Verdict.{subject_of, first_holding, first_assign, first_revoke, first_goal, failing_part, and_then, rules_said, all_said, judged_rules, judged_typing, rules_verdict, typing_verdict}

@@ -1,4 +1,6 @@
 // The verdict on a typing: holdings, assign rules, revoke rules and goals in this order, and the first that fails.
+#![tactic(auto)]
+
 ghost use Rattle.std.specs.Prelude.{◌≡◌, ◌≤◌, ◌<◌, length};
 ghost use Rattle.ledgers.specs.Ledger.{ledger_words};
 ghost use Rattle.reading.specs.Policy.{policy_of};
@@ -13,7 +15,7 @@ use roles::smaller;
 use sheets::lay_out;
 
 // Which part of a policy a typing fails on.
-#[derive(Drop)]
+#[derive(Clone, Copy)]
 pub enum Part {
     Holdings,
     Assign,
@@ -22,7 +24,7 @@ pub enum Part {
 }
 
 // The verdict on a typing: accepted, or the first failure's part and number, from 1.
-#[derive(Drop)]
+#[derive(Clone, Copy)]
 pub enum TypingVerdict {
     Accepted,
     Fails(Part, usize),

@@ -1,5 +1,5 @@
 -- The blocks of a policy come one after another: while lines of one kind are read, the blocks of later kinds are empty.
-use Rattle.std.specs.Prelude.{ℕ, ◌≤◌, true, false, not, ◌&&◌, List, ◌≡◌, refl, leb, eqb, length}
+use Rattle.std.specs.Prelude.{ℕ, ◌≤◌, true, not, ◌&&◌, List, ◌≡◌, refl, leb, eqb, length}
 use Rattle.std.proofs.Math.Bool.{and-eq-true_iff}
 use Rattle.std.proofs.lemmas.Bool.{false≢true}
 use Rattle.std.proofs.Common.{subst, leb-true, eqb-true, arith}

@@ -1,11 +1,13 @@
 // The merge of two judged policies.
+#![tactic(auto)]
+
 use judging::Part;
 
 pub mod directory;
 pub mod merge;
 
 // The answer of merge.
-#[derive(Drop)]
+#[derive(Clone, Copy)]
 pub enum MergeAnswer {
     // the joint counts of roles, assign rules, revoke rules and goals, the pinned names, and the length of the text
     Merged(usize, usize, usize, usize, usize, usize),

@@ -140,7 +140,7 @@ swap_front {s} {t} {line} {line'} h h' (next {t = u} one (next {t = v} two below
     let (w, before, after) = lines_swap s u v line line' h h' one two in next before (next after below)
 
 -- one of them first, and the others after it
-led_front : {s t : Said} {line : List ℕ} {others all : List (List ℕ)} → Inserted line others all → HasLine line → ((x : List ℕ) → Listed x others → HasLine x) → Led s all t → Led s (line ∷ others) t
+led_front : {line : List ℕ} {s t : Said} {others all : List (List ℕ)} → Inserted line others all → HasLine line → ((x : List ℕ) → Listed x others → HasLine x) → Led s all t → Led s (line ∷ others) t
 led_front Inserted.here h each led = led
 led_front (Inserted.there {y = y} below) h each (next one led) = swap_front (each y (front refl)) h (next one (led_front below h (λ x listed. each x (later listed)) led))
 

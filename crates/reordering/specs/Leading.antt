@@ -40,6 +40,7 @@ pub lead_lines : {s u : Said} {pieces : List (List ℕ)} (n : ℕ) → Leading s
 unfolding read_lines onward closing
 lead_lines n (last is) = rw is
 lead_lines n (more is (last {line = line} below)) = rw is (lead_lines (suc n) (last {line = line} below))
+lead_lines n (more is (more {line = line} {pieces = []} one below)) = elim below [ ]
 lead_lines n (more is (more {line = line} {pieces = piece ∷ pieces} one below)) = rw is (lead_lines (suc n) (more one below))
 
 -- a line is `end`, or adds and leads on

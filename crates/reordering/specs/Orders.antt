@@ -21,7 +21,8 @@ module _ {A : Type 0} where
   -- an order of another list is that list in another order,
   put_front : {x : A} {rest others all : List A} → Reordered others rest → Inserted x others all → Reordered all (x ∷ rest)
   put_front order Inserted.here = Reordered.put order Inserted.here
-  put_front (Reordered.put order at) (Inserted.there below) = Reordered.put (put_front order below) (Inserted.there at)
+  put_front {x = x} {rest = rest} (Reordered.put {others = others} order at) (Inserted.there {y = y} {xs = xs} {more = more} below) =
+      Reordered.put (put_front {rest = others} order below) (Inserted.there at)
 
   pub reordered_back : {xs ys : List A} → Reordered xs ys → Reordered ys xs
   reordered_back Reordered.none = Reordered.none

@@ -14,8 +14,8 @@ module _ {A : Type 0} where
   turned : {x y : A} {xs ys zs : List A} → Inserted x xs ys → Inserted y ys zs → Turned x y xs zs
   turned {x} {y} {xs} {ys} i Inserted.here = record { between = y ∷ xs; earlier = Inserted.here; later = Inserted.there i }
   turned Inserted.here (Inserted.there {more = zs} j) = record { between = zs; earlier = j; later = Inserted.here }
-  turned (Inserted.there {y = z} i) (Inserted.there j) =
-      let t = turned i j in
+  turned {x = x} {y = y} (Inserted.there {y = z} {xs = xs} i) (Inserted.there j) =
+      let t = turned {xs = xs} i j in
       record { between = z ∷ t.between; earlier = Inserted.there t.earlier; later = Inserted.there t.later }
 
   -- one more at the end of some, and anywhere among the others

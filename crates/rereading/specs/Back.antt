@@ -16,7 +16,7 @@ use Rattle.tables.specs.Names.{place_of}
 use Rattle.text.specs.Pieces.{split}
 use Rattle.walking.specs.Texts.{Judged, goes, ends, read, read_lines}
 use Rattle.walking.specs.TextLaws.{lines_next, onward_goes, onward_ends, closing_none, text_fits}
-use Rattle.steps.specs.PlaceLaws.{stands_at, at_listed}
+use Rattle.steps.proofs.PlaceLaws.{stands_at, at_listed}
 use Rattle.spelling.specs.TypingText.{row_text, rows_text, typing_text}
 use Rattle.typings.specs.TypingLines.{typing_line}
 use Rattle.typings.specs.TypingText.{Typed, untyped, added, answered, judge_line, read_typing, table_of}

@@ -12,7 +12,7 @@ use Rattle.tables.specs.Names.{packed, place_of}
 use Rattle.text.specs.Pieces.{same_bytes, among, repeated}
 use Rattle.text.specs.PieceLaws.{same_equal}
 use Rattle.fields.specs.Fields.{placed}
-use Rattle.steps.specs.PlaceLaws.{stands_at, at_listed}
+use Rattle.steps.proofs.PlaceLaws.{stands_at, at_listed}
 use Rattle.writing.specs.Written.{spelled}
 use Rattle.writing.specs.Spelling.{spelled-packed}
 use Rattle.spelling.specs.TypingText.{names_from}

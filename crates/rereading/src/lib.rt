@@ -1,1 +1,2 @@
 // What is written of a typing is read back as that typing; this crate has theorems and no functions.
+#![tactic(auto)]

@@ -14,7 +14,7 @@ use Rattle.model.specs.declared.Person.{Person}
 use Rattle.model.specs.Policy.{no_assign, no_revoke, State, newcomer, nobody, person, joined}
 use Rattle.tables.specs.declared.Name.{Name}
 use Rattle.tables.specs.Names.{packed, name_at}
-use Rattle.steps.specs.PlaceLaws.{stands_at, at_listed}
+use Rattle.steps.proofs.PlaceLaws.{stands_at, at_listed}
 use Rattle.lines.specs.declared.Entry.{Entry}
 use Rattle.lines.specs.Lines.{header_kind, role_kind, user_kind, assign_kind, revoke_kind, goal_kind}
 use Rattle.reading.specs.Policy.{Said, nothing, at_stage, kind_of, noted, added}

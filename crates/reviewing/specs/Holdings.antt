@@ -20,7 +20,7 @@ use Rattle.model.specs.Policy.{State, nobody, person, with_roles, with_role, gra
 use Rattle.tables.specs.declared.Name.{Name}
 use Rattle.tables.specs.Named.{Named}
 use Rattle.fields.specs.Roles.{Inside}
-use Rattle.steps.specs.PlaceLaws.{stands_at, at_listed}
+use Rattle.steps.proofs.PlaceLaws.{stands_at, at_listed}
 use Rattle.lines.specs.declared.Entry.{Entry}
 use Rattle.lines.specs.Lines.{has_kind}
 use Rattle.reading.specs.Policy.{Said, at_stage, kind_of, noted, added}

@@ -7,7 +7,7 @@ use Rattle.tables.specs.declared.Name.{Name}
 use Rattle.tables.specs.Names.{packed, place_of, same_name, name_at}
 use Rattle.tables.specs.Named.{Spelt, Named}
 use Rattle.fields.specs.Fields.{placed, is_declared}
-use Rattle.steps.specs.PlaceLaws.{stands_at, at_listed}
+use Rattle.steps.proofs.PlaceLaws.{stands_at, at_listed}
 use Rattle.writing.specs.Written.{spelled}
 use Rattle.rereading.specs.Cuts.{free, free_name}
 use Rattle.rereading.specs.Joined.{Apart}

@@ -1,1 +1,2 @@
 // What is written of a policy is read back as that policy; this crate has theorems and no functions.
+#![tactic(auto)]

@@ -7,5 +7,3 @@ pub mod Trying
 pub mod Joining
 pub mod Says
 pub mod Named
-pub mod TraceVerdictExact
-pub mod Reached

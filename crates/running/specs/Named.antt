@@ -11,7 +11,7 @@ use Rattle.walking.specs.Kept.{text_keeps}
 use Rattle.reading.specs.Policy.{Said, policy_of}
 use Rattle.steps.specs.declared.Step.{Step}
 use Rattle.following.specs.Follows.{Use, Follows}
-use Rattle.following.specs.FollowsExact.{follows_last}
+use Rattle.following.proofs.FollowsExact.{follows_last}
 use Rattle.traces.specs.declared.TraceLine.{TraceLine}
 use Rattle.traces.specs.TraceLines.{trace_line}
 use Rattle.traces.specs.TraceText.{Traced, untraced, begun, with_name, stepped, header_line, answered, later_line, judge_line, read_trace}

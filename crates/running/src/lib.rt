@@ -1,4 +1,6 @@
 // The verdict on a trace: every line is read, every step tried, and the last state judged.
+#![tactic(auto)]
+
 ghost use Rattle.std.specs.Prelude.{◌≡◌, ◌*◌, ◌≤◌, length};
 ghost use Rattle.tables.specs.Names.{rows};
 ghost use Rattle.ledgers.specs.Ledger.{ledger_words};
@@ -15,7 +17,7 @@ use traces::{TraceLine, code, read_line};
 mod state;
 
 // The verdict on a trace.
-#[derive(Drop)]
+#[derive(Clone, Copy)]
 pub enum TraceVerdict {
     // the refusal's number and line
     Refused(u64, usize),

@@ -1,14 +1,14 @@
 -- Spell gives each answer, and leaves in the buffer what it leaves, exactly when its rule says so.
 use Rattle.std.specs.Prelude.{ℕ, Bool, cond, List, ◌↔◌, ◌≡◌}
 use Rattle.std.proofs.Math.Bool.{true, false}
-use Rattle.std.proofs.Common.{true≢false, subst, ◌∙◌, leb-true, leb-false, le-leb, arith}
+use Rattle.std.proofs.Common.{true≢false, subst, ◌∙◌, leb-true, leb-false, le-leb}
 use Rattle.std.proofs.Math.Path.{refl, sym, ap}
 use Rattle.std.proofs.lemmas.Bool.{lt-leb}
 use Rattle.std.proofs.Math.Dec.{leb}
 use Rattle.std.proofs.Math.ListN.{length, take, drop}
 use Rattle.walking.specs.Texts.{Reading, read, refused}
 use Rattle.writing.specs.Written.{put}
-use Rattle.writing.specs.Buffers.{put-before, put-past}
+use Rattle.writing.proofs.Buffers.{put-before, put-past}
 use Rattle.reading.specs.Policy.{Said, read_policy}
 use Rattle.drafting.specs.PolicyText.{policy_text}
 use Rattle.measuring.specs.Lengths.{spelled_length}

@@ -1,4 +1,6 @@
 // The spelling of a policy, asked for alone: the policy is read, and its text is written into a lent buffer.
+#![tactic(auto)]
+
 ghost use Rattle.std.specs.Prelude.{◌≤◌, length};
 ghost use Rattle.ledgers.specs.Ledger.{ledger_words};
 ghost use Rattle.ledgers.specs.Memory.{no_memory, in_memory, Spared};
@@ -11,7 +13,7 @@ use ledgers::{NO_MEMORY, WORDS};
 use reading::read_policy;
 
 // The answer of spell.
-#[derive(Drop)]
+#[derive(Clone, Copy)]
 pub enum SpellAnswer {
     // the length of the text
     Spelled(usize),

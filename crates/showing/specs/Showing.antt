@@ -3,7 +3,7 @@ use Rattle.std.specs.Prelude.{ℕ, ◌≤◌, ◌<◌, Bool, true, false, cond, 
 use Rattle.std.proofs.Common.{zero-le, sym, ap, subst, ◌∙◌, le-leb, leb-true, length-take-le, arith}
 use Rattle.std.proofs.lemmas.Bool.{lt-leb}
 use Rattle.writing.specs.Written.{put}
-use Rattle.writing.specs.Buffers.{put_length}
+use Rattle.writing.proofs.Buffers.{put_length}
 use Rattle.showing.specs.Fields.{shown_length, shown}
 
 -- A line is shown in a buffer: the length that is answered and the buffer afterwards are its own, and the length counts bytes of the buffer.

@@ -6,7 +6,7 @@ use Rattle.std.proofs.Math.Seq.{take-length}
 use Rattle.text.specs.Forms.{bytes}
 use Rattle.text.specs.PieceLaws.{part_rest}
 use Rattle.writing.specs.Written.{put, decimal}
-use Rattle.writing.specs.Buffers.{Wrote, from, back, wrote, wrote_as, wrote_more, wrote_byte, wrote_length, put-before}
+use Rattle.writing.proofs.Buffers.{Wrote, from, back, wrote, wrote_as, wrote_more, wrote_byte, wrote_length, put-before}
 use Rattle.showing.specs.Fields.{field, fields_on}
 
 -- The text before a place goes on by a piece of at most so many bytes, where there is room for them.

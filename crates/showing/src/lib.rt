@@ -1,4 +1,6 @@
 // A line made field after field at the start of a buffer, and shown in a lent buffer.
+#![tactic(auto)]
+
 ghost use Rattle.std.specs.Prelude.{◌++◌, ◌+◌, ◌*◌, ◌≤◌, length};
 ghost use Rattle.text.specs.Forms.{bytes};
 ghost use Rattle.writing.specs.Written.{spelled, decimal};

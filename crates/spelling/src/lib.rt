@@ -1,9 +1,11 @@
 // The text of a typing over a policy's role names: how long it is, and putting it into a lent buffer, a line at a time.
+#![tactic(auto)]
+
 ghost use Rattle.std.specs.Prelude.{Bool, true, ◌≡◌, ◌*◌, ◌≤◌, ◌<◌, length, drop};
 ghost use Rattle.tables.specs.Names.{row_of, rows};
 ghost use Rattle.writing.specs.Written.{put};
 ghost use Rattle.spelling.specs.TypingText.{set_text, row_text, typing_text};
-ghost use Rattle.spelling.specs.TypingSteps.{member_text, field_text, label_field};
+ghost use Rattle.spelling.specs.TypingPieces.{member_text, field_text, label_field};
 
 use model::Typing;
 use roles::RoleSet;

@@ -1,5 +1,5 @@
 -- A text is read exactly when it is lines, each led on from those above.
-use Rattle.std.specs.Prelude.{ℕ, ◌≤◌, Bool, true, not, ◌↔◌, ◌≡◌, refl, eqb, length}
+use Rattle.std.specs.Prelude.{ℕ, suc, ◌≤◌, Bool, true, not, ◌↔◌, ◌≡◌, refl, eqb, length}
 use Rattle.std.proofs.Math.Bool.{◌&&◌, and-eq-true_iff}
 use mathlib.Core.List.{List, [], ◌∷◌, ◌++◌}
 use Rattle.std.proofs.Math.Path.{ap, ap₂}
@@ -93,9 +93,9 @@ module _ {S : Type 0} (judge : S → List ℕ → Judged S) (malformed long : �
   lead_read fits {number} above clear (last {s} {line} is) =
       let parts = (and-eq-true_iff (free 10 line) true).0 clear in
       record { number = number; line = line; last = record { fits = fits; above = above; unbroken = free_unbroken line parts.0 }; is_end = is }
-  lead_read fits above clear (onward {line = line} {lines = lines} good below) =
+  lead_read fits {number = number} above clear (onward {line = line} {lines = lines} good below) =
       let parts = (and-eq-true_iff (free 10 line) (every (free 10) lines)).0 clear in
-      lead_read fits (Above.next above (free_unbroken line parts.0) good) parts.1 below
+      lead_read fits {number = suc number} (Above.next above (free_unbroken line parts.0) good) parts.1 below
 
   -- A text is read exactly when it is not too long and is lines that lead to what is read.
   pub lines_exact : (said : S) → read_text judge malformed long start text ≡ read said ↔ ((length text ≤ 32768) × InLines judge start text said)

@@ -23,7 +23,7 @@ use Rattle.text.specs.PieceLaws.{same_equal, equal_same, neither}
 use Rattle.text.specs.Repeats.{still_single}
 use Rattle.fields.specs.Fields.{placed, is_declared, all_declared, roles_from, roles_of}
 use Rattle.steps.specs.Places.{At, here, there}
-use Rattle.steps.specs.PlaceLaws.{at_inside, at_listed, listed_at}
+use Rattle.steps.proofs.PlaceLaws.{at_inside, at_listed, listed_at}
 use Rattle.fields.specs.Roles.{role_kept}
 use Rattle.spelt.specs.Names.{Names, RoleOf}
 
@@ -188,6 +188,7 @@ from_named names s (field ∷ rest) standing {role} found = go (from_named names
 -- and the role of each of them is added
 named-from : (names : List (List ℕ)) (s : RoleSet) (fields : List (List ℕ)) {name : List ℕ} → placed (map packed names) name < 128 → Listed name fields → placed (map packed names) name ∈ roles_from (map packed names) s fields
 unfolding roles_from
+named-from names s [] {name = name} low m = elim m [ ]
 named-from names s (field ∷ rest) {name} low (first e) =
     role_kept (map packed names) rest (subst⁻¹ (λ (x : List ℕ). placed (map packed names) name ∈ with_of s (placed (map packed names) x)) (sym e) (with_new_lem s low))
 named-from names s (field ∷ rest) low (next m) = named-from names (with_of s (placed (map packed names) field)) rest low m

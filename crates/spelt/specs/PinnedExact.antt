@@ -25,9 +25,9 @@ use Rattle.tables.specs.Padded.{padded}
 use Rattle.reading.specs.Sound.{read_sound}
 use Rattle.typings.specs.TypingText.{Typed, read_typing, table_of}
 use Rattle.steps.specs.Places.{At}
-use Rattle.steps.specs.PlaceLaws.{at_stands, at_listed, listed_at}
+use Rattle.steps.proofs.PlaceLaws.{at_stands, at_listed, listed_at}
 use Rattle.judging.specs.Verdict.{pinned_names}
-use Rattle.judging.specs.Pinned.{members_of, members_more, members_none, empty_members, pinned_members}
+use Rattle.judging.proofs.PinnedLaws.{members_of, members_more, members_none, empty_members, pinned_members}
 use Rattle.verdicts.specs.TypingLaid.{read_laid}
 use Rattle.rereading.specs.Cuts.{free, cut_first}
 use Rattle.spelt.specs.Names.{Names, RoleOf}

@@ -23,7 +23,7 @@ use Rattle.writing.specs.Written.{decimal}
 use Rattle.spelling.specs.TypingText.{label_text}
 use Rattle.steps.specs.declared.Step.{Step}
 use Rattle.steps.specs.Places.{At}
-use Rattle.steps.specs.PlaceLaws.{at_listed}
+use Rattle.steps.proofs.PlaceLaws.{at_listed}
 use Rattle.traces.specs.declared.TraceLine.{TraceLine}
 use Rattle.traces.specs.TraceLines.{Line, two_fields, three_fields, four_fields, line_of, is_step, step_named, step_formed, step_known, step_within, step_said, no_name, name_brought, judged, trace_line}
 use Rattle.traces.specs.TraceLines as lines

@@ -13,7 +13,7 @@ use Rattle.walking.specs.Texts.{goes, read}
 use Rattle.reading.specs.Policy.{Said, read_policy}
 use Rattle.reading.specs.Sound.{read_sound}
 use Rattle.steps.specs.Places.{At, here, there}
-use Rattle.steps.specs.PlaceLaws.{at_inside}
+use Rattle.steps.proofs.PlaceLaws.{at_inside}
 use Rattle.typings.specs.TypingText.{Typed, untyped, headed, rowed, judge_line, read_typing}
 use Rattle.rereading.specs.Cuts.{free}
 use Rattle.spelt.specs.Names.{Names}

@@ -21,7 +21,7 @@ use Rattle.walking.specs.Texts.{Judged, goes, ends, bad}
 use Rattle.walking.specs.Turns.{in_turn}
 use Rattle.walking.specs.TurnLaws.{turn_cases}
 use Rattle.steps.specs.Places.{At}
-use Rattle.steps.specs.PlaceLaws.{at_listed}
+use Rattle.steps.proofs.PlaceLaws.{at_listed}
 use Rattle.spelling.specs.TypingText.{label_text}
 use Rattle.typings.specs.declared.TypingLine.{TypingLine}
 use Rattle.typings.specs.TypingLines.{Line, header, row, end, other, one_field, two_fields, line_of, well_formed, named, entry, judged, typing_line}

@@ -1,4 +1,6 @@
 // The sum of two typings, as a table and as a text, asked for alone.
+#![tactic(auto)]
+
 ghost use Rattle.std.specs.Prelude.{◌≡◌, length, ◌*◌, ◌≤◌};
 ghost use Rattle.tables.specs.Names.{rows};
 ghost use Rattle.ledgers.specs.Ledger.{ledger_words};
@@ -18,7 +20,7 @@ use typings::read_typing;
 pub mod fitting;
 
 // The answer of sum.
-#[derive(Drop)]
+#[derive(Clone, Copy)]
 pub enum SumAnswer {
     // the pinned names, and the length of the text
     Summed(usize, usize),

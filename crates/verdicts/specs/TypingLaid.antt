@@ -22,7 +22,7 @@ use Rattle.fields.specs.Fields.{roles_of}
 use Rattle.tables.specs.Padded.{padded}
 use Rattle.walking.specs.TurnLaws.{turn_cases}
 use Rattle.walking.specs.Kept.{text_keeps}
-use Rattle.steps.specs.PlaceLaws.{stands_at, at_listed}
+use Rattle.steps.proofs.PlaceLaws.{stands_at, at_listed}
 use Rattle.typings.specs.declared.TypingLine.{TypingLine}
 use Rattle.typings.specs.TypingLines.{Line, header, row, end, other, line_of, entry, judged, typing_line}
 use Rattle.typings.specs.TypingText.{Typed, untyped, added, answered, judge_line, read_typing, table_of}

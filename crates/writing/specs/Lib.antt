@@ -1,4 +1,3 @@
 -- How bytes, names and numbers are written into a lent buffer.
 pub mod Written
-pub mod Buffers
 pub mod Spelling

@@ -7,5 +7,7 @@ pub fn write_bytes(out: &mut [u8], part: &[u8]) -> usize
     requires { length part.now ≤ length out.old }
     ensures { (result ≡ length part.now) × (out.new ≡ put part.now out.old) }
 {
-    bytes::copy(part, out)
+    let length = part.len();
+    out[..length].copy_from_slice(part);
+    length
 }

@@ -1,0 +1,61 @@
+-- `merge_with` reads policy one, typing one and policy two, each refusal at once, and hands what is read on.
+use Rattle.std.proofs.Common.{ℕ, ◌≤◌, ◌-◌, List, ◌≡◌, sym, ap, length, drop, length-append, length-drop, arith}
+use borrow.Rule.Slice.PartMut.{same_len_mid}
+use Rattle.ledgers.specs.Ledger.{ledger_words}
+use Rattle.reading.specs.Ledger.{ledger_says}
+use Rattle.reading.specs.Told.{told, untold}
+use Rattle.summing.specs.Layout.{policy_read, typing_read_lem, typing_refused}
+use Rattle.summing.specs.Meeting.{meets_as, meets_leaving}
+use Rattle.merging.specs.Merge.{merge_words}
+use Rattle.merging.specs.Halves.{ledger_one, ledger_two, with_one, with_two, one_room, two_room, one_kept, read_one, read_two}
+use Rattle.merging.specs.MergeOutcomes.{policy_one_refused, typing_one_refused, policy_two_refused, policies_read}
+use Rattle.merging.proofs.merge.merge_with.Goals as goal
+
+-- the memory stays as long as both ledgers
+both : (memory words : List ℕ) → merge_words ≤ length memory → length words ≡ length (ledger_one memory) → merge_words ≤ length (with_one memory words)
+both memory words enough long = omega (arith, one_room memory enough, length-append words (drop ledger_words memory), length-drop ledger_words memory)
+
+still : (memory words : List ℕ) → merge_words ≤ length memory → length words ≡ length (ledger_two memory) → merge_words ≤ length (with_two memory words)
+still memory words enough long = omega (arith, same_len_mid ledger_words (length memory - ledger_words) memory words long)
+
+pub slice_bounds-read_policy-end-2 : goal.slice_bounds-read_policy-end-2
+slice_bounds-read_policy-end-2 c = sym (one_room c.args.memory.now c.requires)
+
+pub read_policy-one-requires : goal.read_policy-one-requires
+read_policy-one-requires c = omega (arith, one_room c.args.memory.now c.requires)
+
+pub returns-then-one-ne0 : goal.returns-then-one-ne0
+returns-then-one-ne0 c = meets_leaving (policy_one_refused _ _ _ _ _ (untold c.read_policy-one.ensures c.if-one-ne0.true))
+
+pub slice_bounds-read_typing-end : goal.slice_bounds-read_typing-end
+slice_bounds-read_typing-end c = omega (arith, both c.args.memory.now c.read_policy-one.new.ledger c.requires c.read_policy-one.auto.ledger)
+
+pub slice_bounds-read_typing-end-2 : goal.slice_bounds-read_typing-end-2
+slice_bounds-read_typing-end-2 c = sym (one_room (with_one c.args.memory.now c.read_policy-one.new.ledger) (both c.args.memory.now c.read_policy-one.new.ledger c.requires c.read_policy-one.auto.ledger))
+
+pub read_typing-first-requires : goal.read_typing-first-requires
+read_typing-first-requires c = let few = (told (read_one c.args.memory.now c.requires c.read_policy-one.ensures c.read_policy-one.auto.ledger) c.if-one-ne0.false).limited.roles in
+    (omega (arith, one_room (with_one c.args.memory.now c.read_policy-one.new.ledger) (both c.args.memory.now c.read_policy-one.new.ledger c.requires c.read_policy-one.auto.ledger), few), few)
+
+pub returns-then-first-ne0 : goal.returns-then-first-ne0
+returns-then-first-ne0 c = meets_leaving (typing_one_refused _ _ _ _ _ (policy_read (told (read_one c.args.memory.now c.requires c.read_policy-one.ensures c.read_policy-one.auto.ledger) c.if-one-ne0.false)) (typing_refused _ _ _ c.read_typing-first.ensures c.if-first-ne0.true))
+
+pub slice_bounds-read_policy-count : goal.slice_bounds-read_policy-count
+slice_bounds-read_policy-count c = omega (arith, both c.args.memory.now c.read_policy-one.new.ledger c.requires c.read_policy-one.auto.ledger)
+
+pub read_policy-two-requires : goal.read_policy-two-requires
+read_policy-two-requires c = two_room (with_one c.args.memory.now c.read_policy-one.new.ledger) (both c.args.memory.now c.read_policy-one.new.ledger c.requires c.read_policy-one.auto.ledger)
+
+pub returns-then-two-ne0 : goal.returns-then-two-ne0
+returns-then-two-ne0 c = let t = typing_read_lem _ _ _ c.read_typing-first.ensures c.if-first-ne0.false in
+    meets_leaving (policy_two_refused _ _ _ _ _ (policy_read (told (read_one c.args.memory.now c.requires c.read_policy-one.ensures c.read_policy-one.auto.ledger) c.if-one-ne0.false)) t.is (untold c.read_policy-two.ensures c.if-two-ne0.true))
+
+pub merge_typed-requires : goal.merge_typed-requires
+merge_typed-requires c = (omega (arith, still (with_one c.args.memory.now c.read_policy-one.new.ledger) c.read_policy-two.new.ledger (both c.args.memory.now c.read_policy-one.new.ledger c.requires c.read_policy-one.auto.ledger) c.read_policy-two.auto.ledger), (told (read_one c.args.memory.now c.requires c.read_policy-one.ensures c.read_policy-one.auto.ledger) c.if-one-ne0.false).limited, (told c.read_policy-two.ensures c.if-two-ne0.false).limited)
+
+pub returns : goal.returns
+returns c = let t = typing_read_lem _ _ _ c.read_typing-first.ensures c.if-first-ne0.false in
+    let q = told (read_two (with_one c.args.memory.now c.read_policy-one.new.ledger) (both c.args.memory.now c.read_policy-one.new.ledger c.requires c.read_policy-one.auto.ledger) c.read_policy-two.ensures c.read_policy-two.auto.ledger) c.if-two-ne0.false in
+    meets_as
+    (policies_read _ _ _ _ _ (policy_read (told (read_one c.args.memory.now c.requires c.read_policy-one.ensures c.read_policy-one.auto.ledger) c.if-one-ne0.false)) t.is (policy_read q) (ap (λ (words : List ℕ). ledger_says words c.read_policy-one.result.counts) (one_kept (with_one c.args.memory.now c.read_policy-one.new.ledger) (both c.args.memory.now c.read_policy-one.new.ledger c.requires c.read_policy-one.auto.ledger) c.read_policy-two.new.ledger)) t.laid)
+    c.merge_typed.ensures

@@ -1,0 +1,2 @@
+-- Laws and theorems about the definitions of specs/.
+pub mod Buffers
