@@ -11,6 +11,8 @@ version=1.0.0
 own="${0##*/}"
 # the repository, or the folder that the programs were installed in
 root="$(dirname -- "$(dirname -- "$(readlink -f -- "${BASH_SOURCE[0]}")")")"
+# the archive for C callers, in the repository
+archive="$root/target/staticlib/libarbac.a"
 
 say() {
     printf '%s: %s\n' "$own" "$*" >&2
@@ -76,23 +78,26 @@ needed() {
 }
 
 # Tells of a build as it goes, from what `rt` says: on a terminal one line that counts the crates proved of so many and the seconds,
-# elsewhere a line a crate.
+# elsewhere a line a crate. Of a crate that is as it was when it was last proved, `rt` says nothing.
 progress() {
-    local all="$1" proved=0 part='' line ended crate
+    local all="$1" proved=0 part='' line ended crate=''
     while true; do
         if IFS= read -r -t 1 line; then ended=0; else ended=$?; fi
         part+="$line"
         if [ "$ended" -eq 0 ]; then
             case "$part" in
-                'rt: '*' proved ('*)
+                'crate '*': modules '*)
+                    crate="${part#crate }"
+                    crate="${crate%%:*}"
+                    ;;
+                'logic=proved '*)
                     proved=$((proved + 1))
-                    crate="${part#rt: }"
-                    [ -t 2 ] || say "proved ${crate%% *}, $proved of $all crates, $SECONDS s"
+                    [ -t 2 ] || say "proved $crate, $proved of at most $all crates, $SECONDS s"
                     ;;
             esac
             part=''
         fi
-        [ -t 2 ] && printf '\r%s: proved %d of %d crates, %d s ' "$own" "$proved" "$all" "$SECONDS" >&2
+        [ -t 2 ] && printf '\r%s: proved %d of at most %d crates, %d s ' "$own" "$proved" "$all" "$SECONDS" >&2
         if [ "$ended" -ne 0 ] && [ "$ended" -le 128 ]; then break; fi
     done
     [ -t 2 ] && printf '\n' >&2
@@ -101,16 +106,18 @@ progress() {
 
 # Whether a FILE that is made from the sources is missing, or its MARK is missing or older than one of them.
 stale() {
-    [ ! -e "$1" ] || [ ! -e "$2" ] || [ -n "$(find "$root/crates" "$root/crates.txt" -newer "$2" -name '*t' -print -quit)" ]
+    [ ! -e "$1" ] || [ ! -e "$2" ] ||
+        [ -n "$(find "$root/crates" "$root/crates.txt" -name out -prune -o -newer "$2" -name '*t' -print -quit)" ]
 }
 
-# Makes a FILE from the sources of a CRATE by `rt VERB CRATE`, where it is missing or older than they are. A mark beside it is as old as
-# the beginning of the build, and is set only where the build succeeds.
+# Makes a FILE from the sources of a CRATE by `rt VERB` in its folder, which leaves it there as out/MADE, where it is missing or older
+# than they are. A mark is as old as the beginning of the build, and is set only where the build succeeds. `rt run` runs the program
+# too: in its crate's folder there are no texts.
 make() {
-    local verb="$1" crate="$2" file="$3" mark="$root/target/$2.$1" lock
+    local verb="$1" crate="$2" made="$root/crates/$2/out/$3" file="$4" mark="$root/target/$2.$1" lock
     if ! stale "$file" "$mark"; then return; fi
     command -v rt >/dev/null || fail 70 "$crate is not built, and there is no rt to build it with: Rattle's kit has it"
-    if ! mkdir -p -- "$root/target" || ! exec {lock}>"$root/target/lock"; then
+    if ! mkdir -p -- "$(dirname -- "$file")" || ! exec {lock}>"$root/target/lock"; then
         fail 70 "can't write in $root/target"
     fi
     # one build at a time: another launcher's may have made the file meanwhile
@@ -122,8 +129,8 @@ make() {
         say "building $crate: each crate that it needs is proved on this machine first, which takes minutes the first time"
         SECONDS=0
         : >"$mark.begun"
-        (cd -- "$root" && exec rt "$verb" "$crate") 2>&1 {lock}>&- | tee -- "$mark.log" | progress "$(needed "$crate" | wc -l)"
-        if [ "${PIPESTATUS[0]}" -ne 0 ] || [ ! -e "$file" ] || ! mv -- "$mark.begun" "$mark"; then
+        (cd -- "$root/crates/$crate" && exec rt "$verb" </dev/null) 2>&1 {lock}>&- | tee -- "$mark.log" | progress "$(needed "$crate" | wc -l)"
+        if [ "${PIPESTATUS[0]}" -ne 0 ] || ! cp -- "$made" "$file.new" || ! mv -- "$file.new" "$file" || ! mv -- "$mark.begun" "$mark"; then
             cat -- "$mark.log" >&2
             fail 70 "$crate could not be built; above is what rt said"
         fi
@@ -142,25 +149,21 @@ path_of() {
 
 # Has the program of a NAME ready to be run: in the repository it is built where it has to be.
 ready() {
-    if [ -e "$root/crates.txt" ]; then make check "$1" "$(path_of "$1")"; fi
+    if [ -e "$root/crates.txt" ]; then make run "$1" "$1" "$(path_of "$1")"; fi
 }
 
-# Runs the program of a NAME in the folder with the words given. It is for x86-64, and with the kit it runs under the kit's loader and
-# C library; on another processor, under the kit's emulator. Nothing of the environment reaches it.
+# Has the archive for C callers ready in the repository.
+ready_archive() {
+    make lib arbac_c libarbac_c.a "$archive"
+}
+
+# Runs the program of a NAME in the folder with the words given. It is for x86-64. Nothing of the environment reaches it.
 run() {
-    local program kit='' under=()
-    program="$(path_of "$1")"
-    if command -v rt >/dev/null; then
-        kit="$(dirname -- "$(dirname -- "$(readlink -f -- "$(command -v rt)")")")/on/$(uname -m)/toolchain"
-    fi
-    if [ -x "$kit/bin/qemu-x86_64" ]; then under+=("$kit/bin/qemu-x86_64"); fi
-    if [ -e "$kit/lib/ld-linux-x86-64.so.2" ]; then
-        under+=("$kit/lib/ld-linux-x86-64.so.2" --library-path "$kit/lib")
-    elif [ "$(uname -m)" != x86_64 ]; then
-        say "the program is for x86-64, and there is no rt whose kit would emulate it"
+    if [ "$(uname -m)" != x86_64 ]; then
+        say 'the program is for x86-64'
         return 70
     fi
-    (cd -- "$folder" && exec env -i "${under[@]}" "$program" "${@:2}" </dev/null)
+    (cd -- "$folder" && exec env -i "$(path_of "$1")" "${@:2}" </dev/null)
 }
 
 # The exit status of an answer's LINE, where SUCCESS is the form of the line that is a success: 70 for what is no answer's line.

@@ -3,7 +3,7 @@
 # shellcheck shell=bash
 source "$(dirname -- "${BASH_SOURCE[0]}")/../../bin/common.sh"
 source "$root/tests/machine.sh"
-make staticlib arbac "$root/target/staticlib/libarbac.a"
+ready_archive
 
 link() {
     linked="$root/target/linked/$(basename "$1" .rs)"

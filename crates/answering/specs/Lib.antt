@@ -2,8 +2,3 @@
 pub mod Answers
 pub mod CheckRules
 pub mod Kinds
-pub mod Outcomes
-pub mod Laws
-pub mod AnswerExact
-pub mod Means
-pub mod Refusals

@@ -1,4 +1,6 @@
 // The answer to a policy text and a piece of evidence.
+#![tactic(auto)]
+
 ghost use Rattle.std.specs.Prelude.{◌≡◌, ◌≤◌, length};
 ghost use Rattle.tables.specs.Names.{rows};
 ghost use Rattle.ledgers.specs.Ledger.{ledger_words};
@@ -20,7 +22,7 @@ use typings::kind::is_typing;
 use typings::read_typing;
 
 // The answer to two texts.
-#[derive(Drop)]
+#[derive(Clone, Copy)]
 pub enum Answer {
     // the counts of roles, assign rules, revoke rules and goals, and the pinned names
     Safe(usize, usize, usize, usize, usize),

@@ -24,7 +24,7 @@ use Rattle.scribing.specs.Spell as spell
 use Rattle.answering.specs.declared.Answer.{Answer}
 use Rattle.answering.specs.Answers.{number_of, answer_of}
 use Rattle.answering.specs.CheckRules.{TextNumber}
-use Rattle.answering.specs.Refusals.{policy_number, evidence_number, refused_number}
+use Rattle.answering.proofs.Refusals.{policy_number, evidence_number, refused_number}
 use Rattle.arbac.specs.Face.{IsSafe, safe, IsSummed, summed, IsMerged, merged, IsSpelled, spelled}
 
 -- ---- of any answer

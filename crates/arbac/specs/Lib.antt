@@ -1,5 +1,3 @@
 -- What the functions for C callers tell, in numbers.
 pub mod Face
-pub mod FaceLaws
 pub mod FaceNumbers
-pub mod FaceExact

@@ -28,8 +28,7 @@ pub const NO_ROOM: u64 = 255;
 
 // Answers the number of the answer to a policy text and a piece of evidence, and tells its values in an array of at least 5
 // numbers.
-#[unsafe(no_mangle)]
-pub extern "C" fn arbac_check(policy: &[u8], evidence: &[u8], values: &mut [u64]) -> u64
+pub fn arbac_check(policy: &[u8], evidence: &[u8], values: &mut [u64]) -> u64
     ensures value { result ≡ told_number 5 (number_of (answer_of policy.now evidence.now)) values.old }
     ensures values_after { values.new ≡ told_in 5 (check_values (answer_of policy.now evidence.now)) values.old }
 {
@@ -41,8 +40,7 @@ pub extern "C" fn arbac_check(policy: &[u8], evidence: &[u8], values: &mut [u64]
 
 // Makes the line that `check` prints for two texts, and answers its length; 0 where the buffer is too short. 128 bytes are
 // enough for every line.
-#[unsafe(no_mangle)]
-pub extern "C" fn arbac_check_line(policy: &[u8], evidence: &[u8], line: &mut [u8]) -> usize
+pub fn arbac_check_line(policy: &[u8], evidence: &[u8], line: &mut [u8]) -> usize
     ensures value { result ≡ shown_length (check_line policy.now evidence.now) line.old }
     ensures line_after { line.new ≡ shown (check_line policy.now evidence.now) line.old }
 {
@@ -50,8 +48,7 @@ pub extern "C" fn arbac_check_line(policy: &[u8], evidence: &[u8], line: &mut [u
 }
 
 // Answers which text the bad line stands in, and tells where it begins and how long it is in an array of at least 2 numbers.
-#[unsafe(no_mangle)]
-pub extern "C" fn arbac_bad_line(policy: &[u8], evidence: &[u8], place: &mut [u64]) -> u64
+pub fn arbac_bad_line(policy: &[u8], evidence: &[u8], place: &mut [u64]) -> u64
     ensures value { result ≡ told_number 2 (place_text (bad_place policy.now evidence.now)) place.old }
     ensures place_after { place.new ≡ told_in 2 (place_values (bad_place policy.now evidence.now)) place.old }
 {
@@ -62,8 +59,7 @@ pub extern "C" fn arbac_bad_line(policy: &[u8], evidence: &[u8], place: &mut [u6
 }
 
 // The same of a policy and a text where a typing is wanted, as sum and merge want one.
-#[unsafe(no_mangle)]
-pub extern "C" fn arbac_bad_typing_line(policy: &[u8], typing: &[u8], place: &mut [u64]) -> u64
+pub fn arbac_bad_typing_line(policy: &[u8], typing: &[u8], place: &mut [u64]) -> u64
     ensures value { result ≡ told_number 2 (place_text (bad_typing_place policy.now typing.now)) place.old }
     ensures place_after { place.new ≡ told_in 2 (place_values (bad_typing_place policy.now typing.now)) place.old }
 {
@@ -75,8 +71,7 @@ pub extern "C" fn arbac_bad_typing_line(policy: &[u8], typing: &[u8], place: &mu
 
 // Writes the sum of two typings over a policy into a buffer, answers the answer's number, and tells its values in an array of at
 // least 2 numbers.
-#[unsafe(no_mangle)]
-pub extern "C" fn arbac_sum(
+pub fn arbac_sum(
     policy: &[u8],
     first: &[u8],
     second: &[u8],
@@ -94,8 +89,7 @@ pub extern "C" fn arbac_sum(
 }
 
 // Writes a policy's spelling into a buffer, answers the answer's number, and tells its value in an array of at least 1 number.
-#[unsafe(no_mangle)]
-pub extern "C" fn arbac_spell(policy: &[u8], out: &mut [u8], values: &mut [u64]) -> u64
+pub fn arbac_spell(policy: &[u8], out: &mut [u8], values: &mut [u64]) -> u64
     ensures value { result ≡ told_number 1 (spells.number_of (answer_in (spell_outcome policy.now (length out.old)))) values.old }
     ensures values_after { values.new ≡ told_in 1 (spell_values (answer_in (spell_outcome policy.now (length out.old)))) values.old }
     ensures out_after { out.new ≡ buffer_told 1 values.old (spell_outcome policy.now (length out.old)) out.old }
@@ -108,8 +102,7 @@ pub extern "C" fn arbac_spell(policy: &[u8], out: &mut [u8], values: &mut [u64])
 
 // Merges two policies, each with a typing of its own, writes the sum of the typings into a buffer, answers the answer's number,
 // and tells its values in an array of at least 6 numbers.
-#[unsafe(no_mangle)]
-pub extern "C" fn arbac_merge(
+pub fn arbac_merge(
     policy_1: &[u8],
     typing_1: &[u8],
     policy_2: &[u8],

@@ -28,13 +28,7 @@ use summing::sum_in;
 use telling::{tell_check, tell_merge, tell_place, tell_spell, tell_sum};
 
 // As `arbac_check`.
-#[unsafe(no_mangle)]
-pub extern "C" fn arbac_check_in(
-    policy: &[u8],
-    evidence: &[u8],
-    values: &mut [u64],
-    memory: &mut [u64],
-) -> u64
+pub fn arbac_check_in(policy: &[u8], evidence: &[u8], values: &mut [u64], memory: &mut [u64]) -> u64
     ensures value { result ≡ lent_number ledger_words 5 (number_of (answer_of policy.now evidence.now)) memory.old values.old }
     ensures values_after { values.new ≡ lent_in ledger_words 5 (check_values (answer_of policy.now evidence.now)) memory.old values.old }
     ensures spared { Spared ledger_words memory.old memory.new }
@@ -49,8 +43,7 @@ pub extern "C" fn arbac_check_in(
 }
 
 // As `arbac_check_line`; 0 also where the memory has too few words.
-#[unsafe(no_mangle)]
-pub extern "C" fn arbac_check_line_in(
+pub fn arbac_check_line_in(
     policy: &[u8],
     evidence: &[u8],
     line: &mut [u8],
@@ -64,8 +57,7 @@ pub extern "C" fn arbac_check_line_in(
 }
 
 // As `arbac_bad_line`.
-#[unsafe(no_mangle)]
-pub extern "C" fn arbac_bad_line_in(
+pub fn arbac_bad_line_in(
     policy: &[u8],
     evidence: &[u8],
     place: &mut [u64],
@@ -85,8 +77,7 @@ pub extern "C" fn arbac_bad_line_in(
 }
 
 // As `arbac_bad_typing_line`.
-#[unsafe(no_mangle)]
-pub extern "C" fn arbac_bad_typing_line_in(
+pub fn arbac_bad_typing_line_in(
     policy: &[u8],
     typing: &[u8],
     place: &mut [u64],
@@ -106,8 +97,7 @@ pub extern "C" fn arbac_bad_typing_line_in(
 }
 
 // As `arbac_sum`.
-#[unsafe(no_mangle)]
-pub extern "C" fn arbac_sum_in(
+pub fn arbac_sum_in(
     policy: &[u8],
     first: &[u8],
     second: &[u8],
@@ -130,13 +120,7 @@ pub extern "C" fn arbac_sum_in(
 }
 
 // As `arbac_spell`.
-#[unsafe(no_mangle)]
-pub extern "C" fn arbac_spell_in(
-    policy: &[u8],
-    out: &mut [u8],
-    values: &mut [u64],
-    memory: &mut [u64],
-) -> u64
+pub fn arbac_spell_in(policy: &[u8], out: &mut [u8], values: &mut [u64], memory: &mut [u64]) -> u64
     ensures value { result ≡ lent_number ledger_words 1 (spells.number_of (answer_in (spell_outcome policy.now (length out.old)))) memory.old values.old }
     ensures values_after { values.new ≡ lent_in ledger_words 1 (spell_values (answer_in (spell_outcome policy.now (length out.old)))) memory.old values.old }
     ensures out_after { out.new ≡ buffer_lent ledger_words 1 memory.old values.old (spell_outcome policy.now (length out.old)) out.old }
@@ -152,8 +136,7 @@ pub extern "C" fn arbac_spell_in(
 }
 
 // As `arbac_merge`, in the words of two ledgers.
-#[unsafe(no_mangle)]
-pub extern "C" fn arbac_merge_in(
+pub fn arbac_merge_in(
     policy_1: &[u8],
     typing_1: &[u8],
     policy_2: &[u8],

@@ -1,29 +1,33 @@
 // The program `arbac`: the verb that its argument names, over the texts of the working directory. The text that is made goes to
 // standard output, the line of the answer to standard error; where the text can't be written, there is no line.
+#![tactic(auto)]
+
 use commands::{merge_of, spell_of, sum_of};
-use libc::{STDERR_FILENO, STDOUT_FILENO};
+use files::argument;
 use program::line_of;
+use std::io;
+use std::io::Write;
 use text::same;
 
 // Writes what was made.
-fn write(text: &[u8], line: &[u8]) {
-    if io::write_all(STDOUT_FILENO, text) {
-        io::write_all(STDERR_FILENO, line);
-    }
+fn write(rt: &HostRuntime, text: &[u8], line: &[u8]) -> io::Result<()> {
+    rt.stdout().write_all(text)?;
+    rt.stderr().write_all(line)
 }
 
 // The verb `check`.
-fn check() {
+fn check(rt: &HostRuntime) -> io::Result<()> {
     let mut line = [0u8; 128];
-    let length = line_of(b"policy.txt", b"evidence.txt", &mut line);
-    write(b"", &line[..length]);
+    let length = line_of(rt, b"policy.txt", b"evidence.txt", &mut line);
+    write(rt, b"", &line[..length])
 }
 
 // The verb `sum`.
-fn sum() {
+fn sum(rt: &HostRuntime) -> io::Result<()> {
     let mut out = [0u8; 32768];
     let mut line = [0u8; 192];
     let report = sum_of(
+        rt,
         b"policy.txt",
         b"typing_1.txt",
         b"typing_2.txt",
@@ -32,14 +36,15 @@ fn sum() {
     );
     let text_length = report.text;
     let line_length = report.line;
-    write(&out[..text_length], &line[..line_length]);
+    write(rt, &out[..text_length], &line[..line_length])
 }
 
 // The verb `merge`.
-fn merge() {
+fn merge(rt: &HostRuntime) -> io::Result<()> {
     let mut out = [0u8; 32768];
     let mut line = [0u8; 192];
     let report = merge_of(
+        rt,
         b"policy_1.txt",
         b"typing_1.txt",
         b"policy_2.txt",
@@ -49,33 +54,34 @@ fn merge() {
     );
     let text_length = report.text;
     let line_length = report.line;
-    write(&out[..text_length], &line[..line_length]);
+    write(rt, &out[..text_length], &line[..line_length])
 }
 
 // The verb `spell`.
-fn spell() {
+fn spell(rt: &HostRuntime) -> io::Result<()> {
     let mut out = [0u8; 32768];
     let mut line = [0u8; 192];
-    let report = spell_of(b"policy.txt", &mut out, &mut line);
+    let report = spell_of(rt, b"policy.txt", &mut out, &mut line);
     let text_length = report.text;
     let line_length = report.line;
-    write(&out[..text_length], &line[..line_length]);
+    write(rt, &out[..text_length], &line[..line_length])
 }
 
-fn main() {
+fn main(rt: HostRuntime) -> io::Result<()> {
     let mut word = [0u8; 16];
-    let length = os::arg(1, &mut word);
+    let length = argument(&rt, 1, &mut word);
     let verb = &word[..length];
     if same(verb, b"check") {
-        check();
+        return check(&rt);
     }
     if same(verb, b"sum") {
-        sum();
+        return sum(&rt);
     }
     if same(verb, b"merge") {
-        merge();
+        return merge(&rt);
     }
     if same(verb, b"spell") {
-        spell();
+        return spell(&rt);
     }
+    Ok(())
 }

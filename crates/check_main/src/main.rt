@@ -1,8 +1,12 @@
 // The program `check`: policy.txt and evidence.txt of the working directory.
-use libc::STDOUT_FILENO;
+#![tactic(auto)]
 
-fn main() {
+use program::line_of;
+use std::io;
+use std::io::Write;
+
+fn main(rt: HostRuntime) -> io::Result<()> {
     let mut line = [0u8; 128];
-    let length = program::line_of(b"policy.txt", b"evidence.txt", &mut line);
-    io::write_all(STDOUT_FILENO, &line[..length]);
+    let length = line_of(&rt, b"policy.txt", b"evidence.txt", &mut line);
+    rt.stdout().write_all(&line[..length])
 }

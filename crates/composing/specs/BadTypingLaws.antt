@@ -14,7 +14,7 @@ use Rattle.composing.specs.SumRules.{summed, Sums}
 use Rattle.composing.specs.MergeRules.{merged, Merges}
 use Rattle.composing.specs.SumExact.{sum_exact}
 use Rattle.composing.specs.MergeExact.{merge_exact}
-use Rattle.composing.specs.BadTyping.{MergeBad, SumBad, TypingRefused, of_first, of_none, of_policy, of_policy_one, of_policy_two, of_second, of_typing_one, of_typing_two, success, unproved}
+use Rattle.composing.specs.BadTyping.{MergeBad, SumBad, TypingRefused}
 
 -- a policy that is refused is so with any typing
 with_any : {policy : List ℕ} (typing : List ℕ) {number line : ℕ} → read_policy policy ≡ refused number line → TypingRefused policy typing number line

@@ -3,7 +3,7 @@ use Rattle.std.specs.Prelude.{ℕ, false, List, ◌≡◌, length, take, drop}
 use Rattle.std.proofs.Common.{sym, ap, subst, ◌∙◌}
 use Rattle.reading.specs.Policy.{Said}
 use Rattle.typings.specs.TypingText.{Typed}
-use Rattle.writing.specs.Buffers.{put-before, put-past}
+use Rattle.writing.proofs.Buffers.{put-before, put-past}
 use Rattle.summing.specs.declared.SumAnswer.{SumAnswer}
 use Rattle.summing.specs.Outcome.{Outcome, leaves, writes, answer_in, buffer_after}
 use Rattle.summing.specs.Sum.{sum_outcome}

@@ -21,7 +21,7 @@ use Rattle.merging.specs.Merge.{merge_outcome}
 use Rattle.answering.specs.declared.Answer.{Answer}
 use Rattle.answering.specs.Answers.{answer_of}
 use Rattle.answering.specs.CheckRules.{Safe}
-use Rattle.answering.specs.AnswerExact.{safe_exact}
+use Rattle.answering.proofs.AnswerExact.{safe_exact}
 use Rattle.composing.specs.SumRules.{sum_text}
 use Rattle.composing.specs.MergeRules.{is_merged, merged, MergeTexts}
 use Rattle.composing.specs.RuleLaws.{merge_so}

@@ -4,7 +4,7 @@ use Rattle.std.proofs.Math.Path.{subst⁻¹}
 use Rattle.model.specs.Policy.{State, joint, Run, Bad}
 use Rattle.model.specs.Typing.{Typing, Accepted}
 use Rattle.model.specs.Meaning.{meaning}
-use Rattle.model.specs.Sum as model
+use Rattle.model.proofs.Sum as model
 use Rattle.tables.specs.declared.Name.{Name}
 use Rattle.walking.specs.Texts.{read}
 use Rattle.reading.specs.Policy.{Said, policy_of, read_policy}

@@ -1,56 +1,82 @@
-// A file put into a lent buffer.
+// Files and arguments put into lent buffers.
+#![tactic(auto)]
+
 ghost use Rattle.io.specs.Counts.{IsPrefixLen};
 
+use std::env::FillError;
+use std::fs::File;
+use std::io::Read;
+use std::rt::{Env, Files};
+
 // Whether the file could be read, and how many bytes of it stand at the start of the buffer.
-#[derive(Drop)]
+#[derive(Clone, Copy)]
 pub struct Loaded {
     pub read: bool,
     pub count: usize,
 }
 
+// What comes of a file that can't be opened.
+const UNREAD: Loaded = Loaded {
+    read: false,
+    count: 0,
+};
+
 // Reads from an open file up to its end or the buffer's, and stops where a read fails.
-fn load_open(file: i32, buffer: &mut [u8]) -> Loaded
+fn load_open(file: &mut impl Read, buffer: &mut [u8]) -> Loaded
     ensures { IsPrefixLen result.count buffer.new }
 {
     let end = buffer.len();
     let mut count = 0;
     while count < end {
-        let got = libc::read(file, &mut buffer[count..]);
-        if got < 0 {
-            return Loaded { read: false, count };
+        match file.read(&mut buffer[count..]) {
+            Err(_) => return Loaded { read: false, count },
+            Ok(0) => return Loaded { read: true, count },
+            Ok(more) => count += more,
         }
-        let more = io::count(got, &buffer[count..]);
-        if more == 0 {
-            return Loaded { read: true, count };
-        }
-        count += more;
     }
     Loaded { read: true, count }
 }
 
-// Reads the file of a name, up to its end or the buffer's.
-pub fn load(name: &[u8], buffer: &mut [u8]) -> Loaded
+// Reads the file of a name, up to its end or the buffer's. A name that is not UTF-8 is that of no file that can be read.
+pub fn load(rt: &impl Files, name: &[u8], buffer: &mut [u8]) -> Loaded
     ensures { IsPrefixLen result.count buffer.new }
 {
-    let file = os::open_read(name);
-    if file < 0 {
-        return Loaded {
-            read: false,
-            count: 0,
-        };
+    match str::from_utf8(name) {
+        Err(_) => UNREAD,
+        Ok(path) => match File::open(rt, path) {
+            Err(_) => UNREAD,
+            Ok(mut file) => load_open(&mut file, buffer),
+        },
     }
-    let loaded = load_open(file, buffer);
-    libc::close(file);
-    loaded
+}
+
+// Puts an argument into the buffer, and answers how many bytes there are; 0 where there is no such argument or it is longer than the buffer.
+pub fn argument(rt: &impl Env, place: usize, buffer: &mut [u8]) -> usize
+    ensures { IsPrefixLen result buffer.new }
+{
+    match rt.arg(place, buffer) {
+        Err(_) => 0,
+        Ok(length) => length,
+    }
+}
+
+// How many arguments there are, the program's own name among them.
+pub fn argument_count(rt: &impl Env) -> usize {
+    for place in 0..usize::MAX {
+        if matches!(rt.arg(place, &mut []), Err(FillError::NotPresent)) {
+            return place;
+        }
+    }
+    usize::MAX
 }
 
 // Puts the file that an argument names into the buffer, and answers how many bytes there are; 0 where it can't be read.
-pub fn load_argument(argument: usize, buffer: &mut [u8]) -> usize
+pub fn load_argument(rt: &(impl Env + Files), place: usize, buffer: &mut [u8]) -> usize
     ensures { IsPrefixLen result buffer.new }
 {
     let mut name = [0u8; 64];
-    let length = os::arg(argument, &mut name);
-    let loaded = load(&name[..length], buffer);
+    let length = argument(rt, place, &mut name);
+    let loaded = load(rt, &name[..length], buffer);
     if !loaded.read {
         return 0;
     }

@@ -1,13 +1,16 @@
 // Runs the merges, sums and spellings that its arguments name, seven words each: `merge`, `sum` or `spell`, the case's name, the
 // size of the lent buffer, and the files of the texts, with `-` past the three of a sum and the one of a spelling. It prints the
 // first three words, the answer, how many bytes behind the text are as they were, and the text.
+#![tactic(auto)]
+
 ghost use Rattle.std.specs.Prelude.{◌≤◌, ◌<◌};
 ghost use Rattle.io.specs.Counts.{IsPrefixLen};
 
-use files::load_argument;
-use libc::STDOUT_FILENO;
+use files::{argument, argument_count, load_argument};
 use merging::MergeAnswer;
 use scribing::SpellAnswer;
+use std::io;
+use std::io::Write;
 use summing::SumAnswer;
 
 // What each byte of the lent buffer is before the call: a full stop, which no text has.
@@ -61,36 +64,37 @@ fn kept(out: &[u8], from: usize) -> usize {
     count
 }
 
-// Writes a tab and a number.
-fn field(number: u64) {
-    io::write_all(STDOUT_FILENO, b"\t");
-    io::print_decimal(STDOUT_FILENO, number);
-}
-
 // Writes a word, and numbers each after a tab.
-fn show(word: &[u8], numbers: &[u64]) {
-    io::write_all(STDOUT_FILENO, word);
-    let mut at = 0;
-    while at < numbers.len() {
-        field(numbers[at]);
-        at += 1;
+fn show(rt: &HostRuntime, word: &[u8], numbers: &[u64]) -> io::Result<()> {
+    rt.stdout().write_all(word)?;
+    for number in numbers {
+        print!(rt; "\t{number}")?;
     }
+    Ok(())
 }
 
 // Writes what the buffer holds: how many bytes behind the text are still the filling, and on the next lines the text.
-fn show_buffer(out: &[u8], length: usize) {
-    show(b"", &[kept(out, length) as u64]);
-    io::write_all(STDOUT_FILENO, b"\n");
+fn show_buffer(rt: &HostRuntime, out: &[u8], length: usize) -> io::Result<()> {
+    show(rt, b"", &[kept(out, length) as u64])?;
+    rt.stdout().write_all(b"\n")?;
     let end = within(length, out);
-    io::write_all(STDOUT_FILENO, &out[..end]);
+    rt.stdout().write_all(&out[..end])
 }
 
 // Writes the answer of merge: the joint counts, pinned and length; which of the four judgings, the part and the number; or which
 // text, the number and the line. Then what the buffer holds.
-fn show_merge(policy_1: &[u8], typing_1: &[u8], policy_2: &[u8], typing_2: &[u8], out: &mut [u8]) {
+fn show_merge(
+    rt: &HostRuntime,
+    policy_1: &[u8],
+    typing_1: &[u8],
+    policy_2: &[u8],
+    typing_2: &[u8],
+    out: &mut [u8],
+) -> io::Result<()> {
     match merging::merge::merge(policy_1, typing_1, policy_2, typing_2, out) {
         MergeAnswer::Merged(roles, assigns, revokes, goals, pinned, length) => {
             show(
+                rt,
                 b"\tOK",
                 &[
                     roles as u64,
@@ -100,130 +104,140 @@ fn show_merge(policy_1: &[u8], typing_1: &[u8], policy_2: &[u8], typing_2: &[u8]
                     pinned as u64,
                     length as u64,
                 ],
-            );
-            show_buffer(out, length);
+            )?;
+            show_buffer(rt, out, length)
         }
         MergeAnswer::Unproved(which, part, number) => {
             show(
+                rt,
                 b"\tUNPROVED",
                 &[which as u64, judging::part_number(part), number as u64],
-            );
-            show_buffer(out, 0);
+            )?;
+            show_buffer(rt, out, 0)
         }
         MergeAnswer::Refused(text, number, line) => {
-            show(b"\tREFUSED", &[text as u64, number, line as u64]);
-            show_buffer(out, 0);
+            show(rt, b"\tREFUSED", &[text as u64, number, line as u64])?;
+            show_buffer(rt, out, 0)
         }
     }
 }
 
 // Writes the answer of sum: pinned and length; or which text, the number and the line. Then what the buffer holds.
-fn show_sum(policy: &[u8], first: &[u8], second: &[u8], out: &mut [u8]) {
+fn show_sum(
+    rt: &HostRuntime,
+    policy: &[u8],
+    first: &[u8],
+    second: &[u8],
+    out: &mut [u8],
+) -> io::Result<()> {
     match summing::sum(policy, first, second, out) {
         SumAnswer::Summed(pinned, length) => {
-            show(b"\tOK", &[pinned as u64, length as u64]);
-            show_buffer(out, length);
+            show(rt, b"\tOK", &[pinned as u64, length as u64])?;
+            show_buffer(rt, out, length)
         }
         SumAnswer::Refused(text, number, line) => {
-            show(b"\tREFUSED", &[text as u64, number, line as u64]);
-            show_buffer(out, 0);
+            show(rt, b"\tREFUSED", &[text as u64, number, line as u64])?;
+            show_buffer(rt, out, 0)
         }
     }
 }
 
 // Writes the answer of spell: the length; or the number and the line. Then what the buffer holds.
-fn show_spelling(policy: &[u8], out: &mut [u8]) {
+fn show_spelling(rt: &HostRuntime, policy: &[u8], out: &mut [u8]) -> io::Result<()> {
     match scribing::spell(policy, out) {
         SpellAnswer::Spelled(length) => {
-            show(b"\tOK", &[length as u64]);
-            show_buffer(out, length);
+            show(rt, b"\tOK", &[length as u64])?;
+            show_buffer(rt, out, length)
         }
         SpellAnswer::Refused(number, line) => {
-            show(b"\tREFUSED", &[number, line as u64]);
-            show_buffer(out, 0);
+            show(rt, b"\tREFUSED", &[number, line as u64])?;
+            show_buffer(rt, out, 0)
         }
     }
 }
 
 // Runs the merge whose last file is the given argument.
-fn run_merge(last: usize, out: &mut [u8])
+fn run_merge(rt: &HostRuntime, last: usize, out: &mut [u8]) -> io::Result<()>
     requires { 3 ≤ last }
 {
     let mut policy_1 = [0u8; 32769];
     let mut typing_1 = [0u8; 32769];
     let mut policy_2 = [0u8; 32769];
     let mut typing_2 = [0u8; 32769];
-    let one = load_argument(last - 3, &mut policy_1);
-    let first = load_argument(last - 2, &mut typing_1);
-    let two = load_argument(last - 1, &mut policy_2);
-    let second = load_argument(last, &mut typing_2);
+    let one = load_argument(rt, last - 3, &mut policy_1);
+    let first = load_argument(rt, last - 2, &mut typing_1);
+    let two = load_argument(rt, last - 1, &mut policy_2);
+    let second = load_argument(rt, last, &mut typing_2);
     show_merge(
+        rt,
         &policy_1[..one],
         &typing_1[..first],
         &policy_2[..two],
         &typing_2[..second],
         out,
-    );
+    )
 }
 
 // Runs the sum whose fourth word for a file is the given argument.
-fn run_sum(last: usize, out: &mut [u8])
+fn run_sum(rt: &HostRuntime, last: usize, out: &mut [u8]) -> io::Result<()>
     requires { 3 ≤ last }
 {
     let mut policy = [0u8; 32769];
     let mut first = [0u8; 32769];
     let mut second = [0u8; 32769];
-    let policy_length = load_argument(last - 3, &mut policy);
-    let first_length = load_argument(last - 2, &mut first);
-    let second_length = load_argument(last - 1, &mut second);
+    let policy_length = load_argument(rt, last - 3, &mut policy);
+    let first_length = load_argument(rt, last - 2, &mut first);
+    let second_length = load_argument(rt, last - 1, &mut second);
     show_sum(
+        rt,
         &policy[..policy_length],
         &first[..first_length],
         &second[..second_length],
         out,
-    );
+    )
 }
 
 // Runs the spelling whose fourth word for a file is the given argument.
-fn run_spell(last: usize, out: &mut [u8])
+fn run_spell(rt: &HostRuntime, last: usize, out: &mut [u8]) -> io::Result<()>
     requires { 3 ≤ last }
 {
     let mut policy = [0u8; 32769];
-    let length = load_argument(last - 3, &mut policy);
-    show_spelling(&policy[..length], out);
+    let length = load_argument(rt, last - 3, &mut policy);
+    show_spelling(rt, &policy[..length], out)
 }
 
 // Runs the case whose last word is the given argument.
-fn run(last: usize)
+fn run(rt: &HostRuntime, last: usize) -> io::Result<()>
     requires { 6 ≤ last }
 {
     let mut kind = [0u8; 64];
     let mut name = [0u8; 64];
     let mut size = [0u8; 64];
     let mut buffer = [FILLING; LARGEST];
-    let kind_length = os::arg(last - 6, &mut kind);
-    let name_length = os::arg(last - 5, &mut name);
-    let size_length = os::arg(last - 4, &mut size);
+    let kind_length = argument(rt, last - 6, &mut kind);
+    let name_length = argument(rt, last - 5, &mut name);
+    let size_length = argument(rt, last - 4, &mut size);
     let room = within(number(&size[..size_length]), &buffer);
-    io::write_all(STDOUT_FILENO, &kind[..kind_length]);
-    io::write_all(STDOUT_FILENO, b"\t");
-    show(&name[..name_length], &[room as u64]);
+    rt.stdout().write_all(&kind[..kind_length])?;
+    rt.stdout().write_all(b"\t")?;
+    show(rt, &name[..name_length], &[room as u64])?;
     // the three words differ in their second letters
     match kind[1] {
-        b'e' => run_merge(last, &mut buffer[..room]),
-        b'u' => run_sum(last, &mut buffer[..room]),
-        _ => run_spell(last, &mut buffer[..room]),
+        b'e' => run_merge(rt, last, &mut buffer[..room]),
+        b'u' => run_sum(rt, last, &mut buffer[..room]),
+        _ => run_spell(rt, last, &mut buffer[..room]),
     }
 }
 
-fn main() {
-    let count = os::arg_count();
-    let mut argument = 7;
-    while argument < count {
-        run(argument);
-        if count - argument <= 7 {
-            return;
+fn main(rt: HostRuntime) -> io::Result<()> {
+    let count = argument_count(&rt);
+    let mut last = 7;
+    while last < count {
+        run(&rt, last)?;
+        if count - last <= 7 {
+            break;
         }
-        argument += 7;
+        last += 7;
     }
+    Ok(())
 }

@@ -1,4 +1,6 @@
 // What the command `spell` makes: the text in one lent buffer, and the line of the answer in another.
+#![tactic(auto)]
+
 ghost use Rattle.std.specs.Prelude.{length};
 ghost use Rattle.io.specs.Counts.{IsPrefixLen};
 ghost use Rattle.reporting.specs.Report.{Reports};

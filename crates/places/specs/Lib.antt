@@ -4,6 +4,4 @@ pub mod PlaceLaws
 pub mod BadLines
 pub mod LinePlaces
 pub mod LineNumbers
-pub mod BadLineExact
 pub mod Answered
-pub mod AnsweredLaws

@@ -7,7 +7,7 @@ use Rattle.std.proofs.Math.ListN.{take, length-drop}
 use Rattle.std.proofs.Math.Seq.{take-length, length-take-le}
 use Rattle.std.proofs.Math.Decide.{dec_lt}
 use native.Mathlib.Omega.{arith}
-use Rattle.bytes.specs.Bytes.{index_of}
+use Rattle.text.specs.Index.{index_of}
 use Rattle.text.specs.Pieces.{split}
 use Rattle.text.specs.PieceLaws.{split_none, split_some, split_piece}
 use Rattle.walking.specs.Meaning.{LF}

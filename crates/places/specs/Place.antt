@@ -1,6 +1,6 @@
 -- The refusal of a policy and a piece of evidence, and where the bad line stands (document 01, "Verdicts and refusal numbers").
 use Rattle.std.specs.Prelude.{ℕ, zero, suc, ◌+◌, ◌-◌, Bool, true, false, cond, ◌&&◌, ◌||◌, List, ◌≡◌, ltb, leb, eqb, length, drop}
-use Rattle.bytes.specs.Bytes.{index_of}
+use Rattle.text.specs.Index.{index_of}
 use Rattle.text.specs.Pieces.{part}
 use Rattle.walking.specs.Texts.{Reading, read, refused}
 use Rattle.ledgers.specs.Ledger.{ledger_words}

@@ -7,7 +7,7 @@ use Rattle.std.proofs.Math.Path.{sym, ap, subst, subst⁻¹}
 use borrow.Author.Tests.{lt-ltb, le-ltb, ltb-true, ltb-false, leb-true, le-leb, eq-eqb, ne_eqb}
 use Rattle.std.proofs.Math.Dec.{leb}
 use native.Mathlib.Omega.{arith}
-use Rattle.bytes.specs.Bytes.{index_of, index_after}
+use Rattle.text.specs.Index.{index_of, index_after}
 use Rattle.tables.specs.declared.Name.{Name}
 use Rattle.text.specs.Pieces.{part, Sought}
 use Rattle.walking.specs.Texts.{Reading, read, refused}

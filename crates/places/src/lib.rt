@@ -1,4 +1,6 @@
 // The refusal of two texts, and the bad line as a part of one of them.
+#![tactic(auto)]
+
 ghost use Rattle.std.specs.Prelude.{◌≡◌, ◌-◌, ◌≤◌, length};
 ghost use Rattle.ledgers.specs.Ledger.{ledger_words};
 ghost use Rattle.ledgers.specs.Memory.{Spared};
@@ -11,14 +13,14 @@ use reading::read_policy;
 use typings::read_typing;
 
 // A refusal's number and line, both 0 where the texts are read.
-#[derive(Drop)]
+#[derive(Clone, Copy)]
 pub struct Refusal {
     pub number: u64,
     pub line: usize,
 }
 
 // A line of a text, from a place up to another; 0, 0 where there is no such line.
-#[derive(Drop)]
+#[derive(Clone, Copy)]
 pub struct Span {
     pub found: bool,
     pub from: usize,
@@ -26,7 +28,7 @@ pub struct Span {
 }
 
 // Which text the bad line stands in, and where.
-#[derive(Drop)]
+#[derive(Clone, Copy)]
 pub struct BadPlace {
     pub evidence: bool,
     pub from: usize,

@@ -1,4 +1,6 @@
 // The line that `check` prints, made in a lent buffer.
+#![tactic(auto)]
+
 ghost use Rattle.std.specs.Prelude.{◌++◌, ◌≡◌, ◌≤◌, length, take};
 ghost use Rattle.text.specs.Forms.{bytes};
 ghost use Rattle.ledgers.specs.Ledger.{ledger_words};

@@ -8,7 +8,7 @@ use Rattle.std.proofs.Math.Dec.{leb}
 use Rattle.io.specs.Counts.{IsPrefixLen}
 use Rattle.walking.specs.Texts.{Reading, read, refused}
 use Rattle.writing.specs.Written.{put}
-use Rattle.writing.specs.Buffers.{put_length}
+use Rattle.writing.proofs.Buffers.{put_length}
 use Rattle.showing.specs.Showing.{Shows}
 use Rattle.summing.specs.Outcome.{Outcome, leaves, writes, answer_in, buffer_after, when_read, fits, Meets}
 use Rattle.reporting.specs.Report.{in_words, text_in, Reports}

@@ -1,4 +1,6 @@
 // What the commands `sum` and `merge` make: the text in one lent buffer, and the line of the answer in another.
+#![tactic(auto)]
+
 ghost use Rattle.std.specs.Prelude.{◌≡◌, length};
 ghost use Rattle.io.specs.Counts.{IsPrefixLen};
 ghost use Rattle.reporting.specs.Report.{first_missing, sum_report, merge_report, Reports};
@@ -9,7 +11,7 @@ use summing::{SumAnswer, sum};
 use wording::{Mention, show, show_unproved};
 
 // How long the text is that was made, and how long the line; 0 where there is none.
-#[derive(Drop)]
+#[derive(Clone, Copy)]
 pub struct Report {
     pub text: usize,
     pub line: usize,

@@ -1,4 +1,6 @@
 // An answer or the place of the bad line told: a number, and the values in a lent array.
+#![tactic(auto)]
+
 ghost use Rattle.std.specs.Prelude.{◌≤◌, length};
 ghost use Rattle.summing.specs.Sum as sums;
 ghost use Rattle.merging.specs.Merge as merges;

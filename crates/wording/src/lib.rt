@@ -1,4 +1,6 @@
 // What a line of `sum` or `merge` speaks of: a text or a judging, by its words; and the line shown with it.
+#![tactic(auto)]
+
 ghost use Rattle.std.specs.Prelude.{◌++◌, ◌+◌, ◌≤◌, length};
 ghost use Rattle.text.specs.Forms.{bytes};
 ghost use Rattle.writing.specs.Written.{decimal};
@@ -14,7 +16,7 @@ use printing::begin_unproved;
 use showing::{begin_line, end_line, show_line, word_field};
 
 // What a line speaks of: a text of a sum, a text of a merge, or a judging of a merge.
-#[derive(Drop)]
+#[derive(Clone, Copy)]
 pub enum Mention {
     SumText,
     MergeText,

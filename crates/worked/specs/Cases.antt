@@ -8,7 +8,7 @@ use Rattle.sheets.specs.Turned.{add_if, add_own, roles_below, sets_below, sets_o
 use Rattle.closing.specs.Rounds.{round_of, same_pair, rounds_of, close_of}
 use Rattle.rules.specs.Tests.{implies, inconsistent_role, person_passes, holds_high, unopposed_target, unneeded_target, target_suits, assign_passes, revoke_passes, goal_passes}
 use Rattle.model.specs.Meaning.{meaning}
-use Rattle.bytes.specs.Bytes.{index_of}
+use Rattle.text.specs.Index.{index_after, index_of}
 use Rattle.model.specs.Policy.{without_role, revoked, leaver, departed}
 use Rattle.text.specs.Forms.{bytes}
 use Rattle.tables.specs.Names.{same_name, name_at}
@@ -118,7 +118,7 @@ rows =
 
 -- opens every definition of answering
 unfoldable answering : Unit {0}
-unfolding reading judging padded index_of without_role revoked leaver departed name_at in_turn typing.one_field typing.two_fields typing.line_of typing.well_formed typing.named typing.entry typing.judged typing.typing_line typings.untyped typings.added typings.answered typings.judge_line typings.read_typing typings.table_of tracing is_typing may_assign may_revoke lowest_goal own_goal bad_person goal_of first_bad assign_at revoke_at possible after later run_of last_verdict ran_verdict read_verdict trace_verdict judged_answer typing_answer trace_answer evidence_answer answer_after answer_of rules_verdict same_name same_lists same_label same_person same_directory when_read answer_in when_same when_accepted merge_judged merge_outcome told
+unfolding reading judging padded index_after index_of without_role revoked leaver departed name_at in_turn typing.one_field typing.two_fields typing.line_of typing.well_formed typing.named typing.entry typing.judged typing.typing_line typings.untyped typings.added typings.answered typings.judge_line typings.read_typing typings.table_of tracing is_typing may_assign may_revoke lowest_goal own_goal bad_person goal_of first_bad assign_at revoke_at possible after later run_of last_verdict ran_verdict read_verdict trace_verdict judged_answer typing_answer trace_answer evidence_answer answer_after answer_of rules_verdict same_name same_lists same_label same_person same_directory when_read answer_in when_same when_accepted merge_judged merge_outcome told
 answering = tt
 
 -- Each row is answered so. P11 is a law by itself (`own_target_passes`).

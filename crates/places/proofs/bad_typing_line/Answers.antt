@@ -1,0 +1,7 @@
+-- `bad_typing_line` is the part at the place of the refusal of a text where a typing is wanted.
+use Rattle.places.specs.Place.{bad_typing_line}
+use Rattle.places.proofs.bad_typing_line.Goals as goal
+
+pub returns : goal.returns
+unfolding bad_typing_line
+returns c = record { result_value = rw c.typing_refusal_of.ensures at c.line_of.ensures.result_value; ref_ptr_value = rw c.typing_refusal_of.ensures at c.line_of.ensures.ref_ptr_value }
