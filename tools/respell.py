@@ -7,7 +7,7 @@ A word that a file of specs/ declares (a definition, a lemma, a field, a constru
 stays only in a lemma's name and only between two names of definitions, as in `tally-ones`; else it becomes an underscore. Types,
 modules, functions of src/, strings, inputs and outputs keep their names, and so does a word that is imported from a library. A name
 that would meet another one gets `_lem`, and the script stops where two still meet. --list prints the table and writes
-nothing. A second run writes nothing more.
+nothing. It serves at the commit that docs/PORT.md names; there a second run writes nothing more.
 """
 import glob
 import os

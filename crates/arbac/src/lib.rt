@@ -1,4 +1,4 @@
-// The public face: check, its line, the bad line, sum, merge and spell; each also in lent memory; and the same for C callers.
+// The public face: check, its line, the bad line, sum, merge and spell; each also in lent memory; and the same in plain numbers, for C callers.
 #![tactic(auto)]
 
 pub mod face;
