@@ -1,12 +1,90 @@
 // The commands `sum`, `merge` and `spell` over named files: all are read before any is judged, and the text and the line are made.
 #![tactic(auto)]
 
+ghost use Rattle.std.specs.Prelude.{true, length, take};
 ghost use Rattle.io.specs.Counts.{IsPrefixLen};
+ghost use Rattle.reporting.specs.Report.{first_missing, sum_report, merge_report, Reports};
+ghost use Rattle.noting.specs.Note.{spell_report};
 
-use files::load;
+use files::{Loaded, load};
 use noting::spell_report;
 use reporting::{Report, first_missing, merge_report, sum_report};
 use std::rt::Files;
+
+// Makes what `sum` makes of three files, of which as many bytes as were read stand in these buffers.
+fn sum_loaded(
+    one: Loaded,
+    policy: &[u8],
+    two: Loaded,
+    first: &[u8],
+    three: Loaded,
+    second: &[u8],
+    out: &mut [u8],
+    line: &mut [u8],
+) -> Report
+    requires one { IsPrefixLen one.count policy.now }
+    requires two { IsPrefixLen two.count first.now }
+    requires three { IsPrefixLen three.count second.now }
+    ensures reports { Reports (sum_report (first_missing one.read two.read three.read true) (take one.count policy.now) (take two.count first.now) (take three.count second.now) (length out.old)) out.old line.old result.text result.line out.new line.new }
+    ensures text { IsPrefixLen result.text out.new }
+    ensures line { IsPrefixLen result.line line.new }
+{
+    sum_report(
+        first_missing(one.read, two.read, three.read, true),
+        &policy[..one.count],
+        &first[..two.count],
+        &second[..three.count],
+        out,
+        line,
+    )
+}
+
+// The same of `merge`, for four files.
+fn merge_loaded(
+    one: Loaded,
+    policy_1: &[u8],
+    two: Loaded,
+    typing_1: &[u8],
+    three: Loaded,
+    policy_2: &[u8],
+    four: Loaded,
+    typing_2: &[u8],
+    out: &mut [u8],
+    line: &mut [u8],
+) -> Report
+    requires one { IsPrefixLen one.count policy_1.now }
+    requires two { IsPrefixLen two.count typing_1.now }
+    requires three { IsPrefixLen three.count policy_2.now }
+    requires four { IsPrefixLen four.count typing_2.now }
+    ensures reports { Reports (merge_report (first_missing one.read two.read three.read four.read) (take one.count policy_1.now) (take two.count typing_1.now) (take three.count policy_2.now) (take four.count typing_2.now) (length out.old)) out.old line.old result.text result.line out.new line.new }
+    ensures text { IsPrefixLen result.text out.new }
+    ensures line { IsPrefixLen result.line line.new }
+{
+    merge_report(
+        first_missing(one.read, two.read, three.read, four.read),
+        &policy_1[..one.count],
+        &typing_1[..two.count],
+        &policy_2[..three.count],
+        &typing_2[..four.count],
+        out,
+        line,
+    )
+}
+
+// The same of `spell`, for one file.
+fn spell_loaded(loaded: Loaded, policy: &[u8], out: &mut [u8], line: &mut [u8]) -> Report
+    requires { IsPrefixLen loaded.count policy.now }
+    ensures reports { Reports (spell_report (first_missing loaded.read true true true) (take loaded.count policy.now) (length out.old)) out.old line.old result.text result.line out.new line.new }
+    ensures text { IsPrefixLen result.text out.new }
+    ensures line { IsPrefixLen result.line line.new }
+{
+    spell_report(
+        first_missing(loaded.read, true, true, true),
+        &policy[..loaded.count],
+        out,
+        line,
+    )
+}
 
 // Makes what `sum` makes of the policy file and the two typing files of these names. One byte more than a text may have is enough to
 // refuse it.
@@ -27,17 +105,7 @@ pub fn sum_of(
     let one = load(rt, policy_name, &mut policy);
     let two = load(rt, first_name, &mut first);
     let three = load(rt, second_name, &mut second);
-    let policy_length = one.count;
-    let first_length = two.count;
-    let second_length = three.count;
-    sum_report(
-        first_missing(one.read, two.read, three.read, true),
-        &policy[..policy_length],
-        &first[..first_length],
-        &second[..second_length],
-        out,
-        line,
-    )
+    sum_loaded(one, &policy, two, &first, three, &second, out, line)
 }
 
 // The same of `merge`, for two policy files with a typing file each.
@@ -61,18 +129,8 @@ pub fn merge_of(
     let two = load(rt, typing_1_name, &mut typing_1);
     let three = load(rt, policy_2_name, &mut policy_2);
     let four = load(rt, typing_2_name, &mut typing_2);
-    let policy_1_length = one.count;
-    let typing_1_length = two.count;
-    let policy_2_length = three.count;
-    let typing_2_length = four.count;
-    merge_report(
-        first_missing(one.read, two.read, three.read, four.read),
-        &policy_1[..policy_1_length],
-        &typing_1[..typing_1_length],
-        &policy_2[..policy_2_length],
-        &typing_2[..typing_2_length],
-        out,
-        line,
+    merge_loaded(
+        one, &policy_1, two, &typing_1, three, &policy_2, four, &typing_2, out, line,
     )
 }
 
@@ -83,11 +141,5 @@ pub fn spell_of(rt: &impl Files, policy_name: &[u8], out: &mut [u8], line: &mut 
 {
     let mut policy = [0u8; 32769];
     let one = load(rt, policy_name, &mut policy);
-    let length = one.count;
-    spell_report(
-        first_missing(one.read, true, true, true),
-        &policy[..length],
-        out,
-        line,
-    )
+    spell_loaded(one, &policy, out, line)
 }

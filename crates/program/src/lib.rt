@@ -1,11 +1,38 @@
 // The program `check` over two named files: both are read before either is judged, and their line is made.
 #![tactic(auto)]
 
+ghost use Rattle.std.specs.Prelude.{◌≡◌, take};
 ghost use Rattle.io.specs.Counts.{IsPrefixLen};
+ghost use Rattle.showing.specs.Fields.{shown_length, shown};
+ghost use Rattle.printing.specs.Program.{program_line};
 
-use files::load;
+use files::{Loaded, load};
 use printing::program_line;
 use std::rt::Files;
+
+// Puts the line of two files, of which as many bytes as were read stand in these buffers, into a buffer, and answers its length.
+fn line_loaded(
+    first: Loaded,
+    policy: &[u8],
+    second: Loaded,
+    evidence: &[u8],
+    line: &mut [u8],
+) -> usize
+    requires first { IsPrefixLen first.count policy.now }
+    requires second { IsPrefixLen second.count evidence.now }
+    ensures value { result ≡ shown_length (program_line first.read (take first.count policy.now) second.read (take second.count evidence.now)) line.old }
+    ensures line_after { line.new ≡ shown (program_line first.read (take first.count policy.now) second.read (take second.count evidence.now)) line.old }
+    ensures in_bounds { IsPrefixLen result line.new }
+{
+    let length = program_line(
+        first.read,
+        &policy[..first.count],
+        second.read,
+        &evidence[..second.count],
+        line,
+    );
+    length
+}
 
 // Puts the line of the policy file and the evidence file of these names into a buffer, and answers its length. One byte more than
 // a text may have is enough to refuse it.
@@ -16,14 +43,5 @@ pub fn line_of(rt: &impl Files, policy_name: &[u8], evidence_name: &[u8], line: 
     let mut evidence = [0u8; 32769];
     let first = load(rt, policy_name, &mut policy);
     let second = load(rt, evidence_name, &mut evidence);
-    let policy_length = first.count;
-    let evidence_length = second.count;
-    let length = program_line(
-        first.read,
-        &policy[..policy_length],
-        second.read,
-        &evidence[..evidence_length],
-        line,
-    );
-    length
+    line_loaded(first, &policy, second, &evidence, line)
 }
