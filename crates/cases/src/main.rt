@@ -2,10 +2,12 @@
 // name, which text the bad line is in, its start and its end, the same where a typing is wanted, and the line that `check` prints.
 #![tactic(auto)]
 
-use files::{argument, argument_count, load_argument};
+use files::{argument, load_argument};
 use places::BadPlace;
+use std::env::FillError;
 use std::io;
 use std::io::Write;
+use std::rt::Env;
 
 // Writes which text a place is in, its start and its end.
 fn show_place(rt: &HostRuntime, place: BadPlace) -> io::Result<()> {
@@ -43,14 +45,12 @@ fn run(rt: &HostRuntime, case: usize, first: usize, second: usize) -> io::Result
 }
 
 fn main(rt: HostRuntime) -> io::Result<()> {
-    let count = argument_count(&rt);
-    let mut last = 3;
-    while last < count {
-        run(&rt, last - 2, last - 1, last)?;
-        if count - last <= 3 {
+    for case in 0..usize::MAX / 3 {
+        let last = 3 * case + 3;
+        if matches!(rt.arg(last, &mut []), Err(FillError::NotPresent)) {
             break;
         }
-        last += 3;
+        run(&rt, last - 2, last - 1, last)?;
     }
     Ok(())
 }

@@ -3,7 +3,6 @@
 
 ghost use Rattle.io.specs.Counts.{IsPrefixLen};
 
-use std::env::FillError;
 use std::fs::File;
 use std::io::Read;
 use std::rt::{Env, Files};
@@ -58,16 +57,6 @@ pub fn argument(rt: &impl Env, place: usize, buffer: &mut [u8]) -> usize
         Err(_) => 0,
         Ok(length) => length,
     }
-}
-
-// How many arguments there are, the program's own name among them.
-pub fn argument_count(rt: &impl Env) -> usize {
-    for place in 0..usize::MAX {
-        if matches!(rt.arg(place, &mut []), Err(FillError::NotPresent)) {
-            return place;
-        }
-    }
-    usize::MAX
 }
 
 // Puts the file that an argument names into the buffer, and answers how many bytes there are; 0 where it can't be read.

@@ -6,10 +6,12 @@ ghost use Rattle.std.specs.Prelude.{◌≤◌};
 ghost use Rattle.std.specs.Io.{ReadsAtMost};
 
 use commands::{merge_of, spell_of, sum_of};
-use files::{argument, argument_count};
+use files::argument;
 use program::line_of;
+use std::env::FillError;
 use std::io;
 use std::io::Write;
+use std::rt::Env;
 use text::same;
 
 // Puts an argument into a buffer and prints it with a tab, and answers its length.
@@ -83,14 +85,12 @@ fn run(rt: &HostRuntime, last: usize) -> io::Result<()>
 }
 
 fn main(rt: HostRuntime) -> io::Result<()> {
-    let count = argument_count(&rt);
-    let mut last = 5;
-    while last < count {
-        run(&rt, last)?;
-        if count - last <= 5 {
+    for case in 0..usize::MAX / 5 {
+        let last = 5 * case + 5;
+        if matches!(rt.arg(last, &mut []), Err(FillError::NotPresent)) {
             break;
         }
-        last += 5;
+        run(&rt, last)?;
     }
     Ok(())
 }

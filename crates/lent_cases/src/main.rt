@@ -6,11 +6,13 @@
 ghost use Rattle.std.specs.Prelude.{◌≤◌, ◌<◌};
 ghost use Rattle.io.specs.Counts.{IsPrefixLen};
 
-use files::{argument, argument_count, load_argument};
+use files::{argument, load_argument};
 use merging::MergeAnswer;
 use scribing::SpellAnswer;
+use std::env::FillError;
 use std::io;
 use std::io::Write;
+use std::rt::Env;
 use summing::SumAnswer;
 
 // What each byte of the lent buffer is before the call: a full stop, which no text has.
@@ -230,14 +232,12 @@ fn run(rt: &HostRuntime, last: usize) -> io::Result<()>
 }
 
 fn main(rt: HostRuntime) -> io::Result<()> {
-    let count = argument_count(&rt);
-    let mut last = 7;
-    while last < count {
-        run(&rt, last)?;
-        if count - last <= 7 {
+    for case in 0..usize::MAX / 7 {
+        let last = 7 * case + 7;
+        if matches!(rt.arg(last, &mut []), Err(FillError::NotPresent)) {
             break;
         }
-        last += 7;
+        run(&rt, last)?;
     }
     Ok(())
 }

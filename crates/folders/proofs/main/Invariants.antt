@@ -1,9 +1,0 @@
--- `main` comes nearer to its last argument with each case.
-use Rattle.std.proofs.Common.{◌-◌, ◌≤◌}
-use Rattle.folders.proofs.main.Given as goal
-
-abbrev pub invariant-loop-last : goal.invariant-loop-last
-invariant-loop-last l = 5 ≤ l.last
-
-abbrev pub decreases-loop-last : goal.decreases-loop-last
-decreases-loop-last l = l.count - l.last
