@@ -1,5 +1,5 @@
 -- How the answer follows from what a reader finds: the laws of its definition.
-use Rattle.std.specs.Prelude.{ℕ, true, false, List, ◌≡◌}
+use Rattle.std.specs.Prelude.{ℕ, true, false, List, Result, Ok, Err, ◌≡◌}
 use Rattle.std.proofs.Math.Path.{sym, ap}
 use Rattle.std.proofs.Common.{ap₂, ◌∙◌}
 use Rattle.tables.specs.declared.Name.{Name}
@@ -9,13 +9,12 @@ use Rattle.lines.specs.declared.Counts.{Counts}
 use Rattle.reading.specs.Policy.{Said, counts_of}
 use Rattle.reading.specs.Ledger.{ledger_says}
 use Rattle.reading.specs.Told.{Told, roles-told}
-use Rattle.typings.specs.declared.TypingRead.{TypingRead}
+use Rattle.walking.specs.declared.Refusal.{Refusal}
 use Rattle.typings.specs.TypingText.{read_typing, typing_read}
 use Rattle.typings.specs.TypingTold.{typing_told_lem, typing_untold}
 use Rattle.typings.specs.Kind.{is_typing}
-use Rattle.judging.specs.declared.Part.{Part}
-use Rattle.judging.specs.declared.TypingVerdict.{TypingVerdict}
-use Rattle.judging.specs.Verdict.{Subject, subject_of, judged_typing, pinned_names}
+use Rattle.judging.specs.declared.Failure.{Failure}
+use Rattle.judging.specs.Verdict.{TypingVerdict, accepted, Subject, subject_of, judged_typing, pinned_names}
 use Rattle.running.specs.declared.TraceVerdict.{TraceVerdict}
 use Rattle.running.specs.Verdict.{trace_verdict}
 use Rattle.answering.specs.declared.Answer.{Answer}
@@ -25,25 +24,25 @@ use Rattle.answering.proofs.Outcomes.{kind_answer}
 -- ---- a typing that is read
 
 module _ (c : Counts) (t : Table) {v : TypingVerdict} where
-  pub judged_safe : v ≡ TypingVerdict.Accepted → {names : ℕ} → names ≡ pinned_names t c.roles → Answer.Safe c.roles c.assigns c.revokes c.goals names ≡ judged_answer c t v
+  pub judged_safe : v ≡ accepted → {names : ℕ} → names ≡ pinned_names t c.roles → Answer.Safe c.roles c.assigns c.revokes c.goals names ≡ judged_answer c t v
   unfolding judged_answer
-  judged_safe accepted many = ap (Answer.Safe c.roles c.assigns c.revokes c.goals) many ∙ sym (ap (judged_answer c t) accepted)
+  judged_safe passes many = ap (Answer.Safe c.roles c.assigns c.revokes c.goals) many ∙ sym (ap (judged_answer c t) passes)
 
-  pub judged_fails : {part : Part} {number : ℕ} → v ≡ TypingVerdict.Fails part number → Answer.Unproved part number ≡ judged_answer c t v
+  pub judged_fails : {failure : Failure} → v ≡ Err failure → Answer.Unproved failure.part failure.number ≡ judged_answer c t v
   unfolding judged_answer
   judged_fails fails = sym (ap (judged_answer c t) fails)
 
 -- ---- a typing text over a policy
 
-module _ (c : Counts) (subject : Subject) (names : List Name) (text : List ℕ) {T : TypingRead} (given : T ≡ typing_read names text) where
-  pub typing_refused : (T.refusal ≡ 0 → ⊥) → Answer.Refused T.refusal T.line ≡ typing_answer c subject (read_typing names text)
+module _ (c : Counts) (subject : Subject) (names : List Name) (text : List ℕ) where
+  pub typing_refused : {refusal : Refusal} → Err refusal ≡ typing_read names text → Answer.Refused refusal ≡ typing_answer c subject (read_typing names text)
   unfolding typing_answer
-  typing_refused some = sym (ap (typing_answer c subject) (typing_untold names text given some))
+  typing_refused given = sym (ap (typing_answer c subject) (typing_untold names text given))
 
-  pub typing_judged : T.refusal ≡ 0 → judged_answer c T.typing (judged_typing subject T.typing) ≡ typing_answer c subject (read_typing names text)
+  pub typing_judged : {typing : Table} → Ok typing ≡ typing_read names text → judged_answer c typing (judged_typing subject typing) ≡ typing_answer c subject (read_typing names text)
   unfolding typing_answer
-  typing_judged none =
-      let t = typing_told_lem names text given none in
+  typing_judged given =
+      let t = typing_told_lem names text given in
       ap (λ (table : Table). judged_answer c table (judged_typing subject table)) t.laid ∙ sym (ap (typing_answer c subject) t.is)
 
 -- ---- both texts
@@ -55,5 +54,5 @@ module _ (policy evidence : List ℕ) {c : Counts} {words : List ℕ} (t : Told 
       ∙ ap (λ (s : Said). typing_answer (counts_of t.said) (subject_of s) (read_typing t.said.roles evidence)) t.says
       ∙ sym (kind_answer policy evidence t.is kind)
 
-  pub over_trace : is_typing evidence ≡ false → {v : TraceVerdict} → v ≡ trace_verdict (ledger_says words c) evidence → trace_answer v ≡ answer_of policy evidence
+  pub over_trace : is_typing evidence ≡ false → {v : Result TraceVerdict Refusal} → v ≡ trace_verdict (ledger_says words c) evidence → trace_answer v ≡ answer_of policy evidence
   over_trace kind verdict = ap trace_answer (verdict ∙ ap (λ (s : Said). trace_verdict s evidence) t.says) ∙ sym (kind_answer policy evidence t.is kind)

@@ -10,14 +10,14 @@ use Rattle.typings.specs.Kind.{is_typing}
 use Rattle.judging.specs.Verdict.{subject_of, typing_verdict}
 use Rattle.running.specs.Verdict.{trace_verdict}
 use Rattle.answering.specs.declared.Answer.{Answer}
-use Rattle.answering.specs.Answers.{judged_answer, typing_answer, trace_answer, evidence_answer, answer_after, answer_of}
+use Rattle.answering.specs.Answers.{judged_answer, typing_answer, trace_answer, refused_at, evidence_answer, answer_after, answer_of}
 use Rattle.answering.specs.Kinds.{typing_kind}
 
 module _ (policy evidence : List ℕ) where
   -- the readings and the verdict behind an answer
   pub data Outcome : Answer → Type 0 where
-    no_policy : {k n : ℕ} → read_policy policy ≡ refused k n → Outcome (Answer.Refused k n)
-    no_typing : {s : Said} {k n : ℕ} → read_policy policy ≡ read s → is_typing evidence ≡ true → read_typing s.roles evidence ≡ refused k n → Outcome (Answer.Refused k n)
+    no_policy : {k n : ℕ} → read_policy policy ≡ refused k n → Outcome (refused_at k n)
+    no_typing : {s : Said} {k n : ℕ} → read_policy policy ≡ read s → is_typing evidence ≡ true → read_typing s.roles evidence ≡ refused k n → Outcome (refused_at k n)
     typed : {s : Said} {t : Typed} → read_policy policy ≡ read s → read_typing s.roles evidence ≡ read t → Outcome (judged_answer (counts_of s) (table_of t) (typing_verdict s (table_of t)))
     traced : {s : Said} → read_policy policy ≡ read s → is_typing evidence ≡ false → Outcome (trace_answer (trace_verdict s evidence))
 
@@ -29,11 +29,11 @@ module _ (policy evidence : List ℕ) where
       ap (λ (r : Reading Said). answer_after r evidence) reads
       ∙ ap (λ (b : Bool). cond b (typing_answer (counts_of s) (subject_of s) (read_typing s.roles evidence)) (trace_answer (trace_verdict s evidence))) kind
 
-  pub policy_refused : {k n : ℕ} → read_policy policy ≡ refused k n → answer_of policy evidence ≡ Answer.Refused k n
+  pub policy_refused : {k n : ℕ} → read_policy policy ≡ refused k n → answer_of policy evidence ≡ refused_at k n
   unfolding answer_of answer_after
   policy_refused reads = ap (λ (r : Reading Said). answer_after r evidence) reads
 
-  pub typing_refused : {s : Said} {k n : ℕ} → read_policy policy ≡ read s → is_typing evidence ≡ true → read_typing s.roles evidence ≡ refused k n → answer_of policy evidence ≡ Answer.Refused k n
+  pub typing_refused : {s : Said} {k n : ℕ} → read_policy policy ≡ read s → is_typing evidence ≡ true → read_typing s.roles evidence ≡ refused k n → answer_of policy evidence ≡ refused_at k n
   unfolding typing_answer
   typing_refused {s} reads kind over = kind_answer reads kind ∙ ap (typing_answer (counts_of s) (subject_of s)) over
 

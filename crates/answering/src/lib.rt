@@ -9,9 +9,9 @@ ghost use Rattle.reading.specs.Ledger.{ledger_says, Limited};
 ghost use Rattle.typings.specs.TypingText.{read_typing};
 ghost use Rattle.judging.specs.Verdict.{subject_of};
 ghost use Rattle.answering.specs.declared.Answer.{Answer};
-ghost use Rattle.answering.specs.Answers.{judged_answer, typing_answer, trace_answer, answer_of};
+ghost use Rattle.answering.specs.Answers.{judged_answer, typing_answer, traced_answer, refused_at, answered, answer_of};
 
-use judging::{Part, TypingVerdict, judge_typing, pinned};
+use judging::{Failure, Part, judge_typing, pinned};
 use ledgers::{NO_MEMORY, WORDS};
 use lines::Counts;
 use model::Typing;
@@ -20,6 +20,7 @@ use running::{TraceVerdict, run_trace};
 use tables::Name;
 use typings::kind::is_typing;
 use typings::read_typing;
+use walking::{Fault, Refusal};
 
 // The answer to two texts.
 #[derive(Clone, Copy)]
@@ -34,26 +35,30 @@ pub enum Answer {
     Broken(usize),
     // the number of steps
     Short(usize),
-    // the refusal's number and line
-    Refused(u64, usize),
+    Refused(Refusal),
 }
+
+// The refusal where less is lent than a ledger's words: no line is told.
+pub const TOO_FEW_WORDS: Refusal = Refusal {
+    number: NO_MEMORY,
+    line: 0,
+};
 
 // The answer to a typing that is read, by its verdict.
-fn judged(verdict: TypingVerdict, c: Counts, t: Typing) -> Answer
+fn judged(verdict: Result<(), Failure>, c: Counts, t: Typing) -> Answer
     ensures { result ≡ judged_answer c t verdict }
 {
-    let TypingVerdict::Fails(part, number) = verdict else {
-        return Answer::Safe(c.roles, c.assigns, c.revokes, c.goals, pinned(t, c.roles));
-    };
-    Answer::Unproved(part, number)
+    match verdict {
+        Ok(()) => Answer::Safe(c.roles, c.assigns, c.revokes, c.goals, pinned(t, c.roles)),
+        Err(failure) => Answer::Unproved(failure.part, failure.number),
+    }
 }
 
-// The answer to a trace, by its verdict.
+// The answer to a trace that is read, by its verdict.
 fn traced(verdict: TraceVerdict) -> Answer
-    ensures { result ≡ trace_answer verdict }
+    ensures { result ≡ traced_answer verdict }
 {
     match verdict {
-        TraceVerdict::Refused(number, line) => Answer::Refused(number, line),
         TraceVerdict::Attacked(steps, user, name, goal) => {
             Answer::Attacked(steps, user, name, goal)
         }
@@ -62,33 +67,37 @@ fn traced(verdict: TraceVerdict) -> Answer
     }
 }
 
-// The answer to a typing text over the policy that a ledger says.
-fn typing_answer(evidence: &[u8], ledger: &[u64], c: Counts) -> Answer
+// The answer to a typing text over the policy that a ledger says, or the refusal.
+fn typing_answer(evidence: &[u8], ledger: &[u64], c: Counts) -> Result<Answer, Refusal>
     requires { (ledger_words ≤ length ledger.now) × Limited c }
-    ensures { result ≡ typing_answer c (subject_of (ledger_says ledger.now c)) (read_typing (rows c.roles ledger.now) evidence.now) }
+    ensures { answered result ≡ typing_answer c (subject_of (ledger_says ledger.now c)) (read_typing (rows c.roles ledger.now) evidence.now) }
 {
-    let read = read_typing(evidence, ledger, c.roles);
-    if read.refusal != 0 {
-        return Answer::Refused(read.refusal, read.line);
-    }
-    let t = read.typing;
-    judged(judge_typing(ledger, c, t), c, t)
+    let t = read_typing(evidence, ledger, c.roles)?;
+    Ok(judged(judge_typing(ledger, c, t), c, t))
 }
 
-// The answer to two texts, with a ledger to work in: the policy is read, then the evidence, and it is judged.
+// The answer to two texts, with a ledger to work in, or the refusal: the policy is read, then the evidence, and it is judged.
+fn answer_read(policy: &[u8], evidence: &[u8], ledger: &mut [u64]) -> Result<Answer, Refusal>
+    requires { ledger_words ≤ length ledger.old }
+    ensures { answered result ≡ answer_of policy.now evidence.now }
+{
+    let c = read_policy(policy, ledger)?;
+    if is_typing(evidence) {
+        return typing_answer(evidence, ledger, c);
+    }
+    let verdict = run_trace(evidence, ledger, c)?;
+    Ok(traced(verdict))
+}
+
+// The answer to two texts, with a ledger to work in: what is answered where both are read, or the refusal.
 fn answer_with(policy: &[u8], evidence: &[u8], ledger: &mut [u64]) -> Answer
     requires { ledger_words ≤ length ledger.old }
     ensures { result ≡ answer_of policy.now evidence.now }
 {
-    let p = read_policy(policy, ledger);
-    if p.refusal != 0 {
-        return Answer::Refused(p.refusal, p.line);
+    match answer_read(policy, evidence, ledger) {
+        Ok(answer) => answer,
+        Err(refusal) => Answer::Refused(refusal),
     }
-    let c = p.counts;
-    if is_typing(evidence) {
-        return typing_answer(evidence, ledger, c);
-    }
-    traced(run_trace(evidence, ledger, c))
 }
 
 // The answer to a policy text and a piece of evidence: the policy first, then the evidence, then the judging. A policy that is too
@@ -97,10 +106,13 @@ pub fn check(policy: &[u8], evidence: &[u8]) -> Answer
     ensures { result ≡ answer_of policy.now evidence.now }
 {
     if 32768 < policy.len() {
-        return Answer::Refused(10, 0);
+        return Answer::Refused(Refusal {
+            number: 10,
+            line: 0,
+        });
     }
     if !text::begins_with(policy, b"arbac\t1\n") {
-        return Answer::Refused(11, 1);
+        return Answer::Refused(Fault::Malformed.in_policy(1));
     }
     let mut ledger = [0u64; WORDS];
     answer_with(policy, evidence, &mut ledger)
@@ -108,11 +120,11 @@ pub fn check(policy: &[u8], evidence: &[u8]) -> Answer
 
 // The same in lent memory, of which a ledger's words are needed.
 pub fn check_in(policy: &[u8], evidence: &[u8], memory: &mut [u64]) -> Answer
-    ensures value { result ≡ in_memory ledger_words (length memory.old) (Answer.Refused no_memory 0) (answer_of policy.now evidence.now) }
+    ensures value { result ≡ in_memory ledger_words (length memory.old) (refused_at no_memory 0) (answer_of policy.now evidence.now) }
     ensures spared { Spared ledger_words memory.old memory.new }
 {
     if memory.len() < WORDS {
-        return Answer::Refused(NO_MEMORY, 0);
+        return Answer::Refused(TOO_FEW_WORDS);
     }
     answer_with(policy, evidence, &mut memory[..WORDS])
 }

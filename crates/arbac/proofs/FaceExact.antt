@@ -10,12 +10,10 @@ use Rattle.places.specs.Place.{bytes_at, bad_place, bad_line, bad_typing_place, 
 use Rattle.writing.specs.Written.{put}
 use Rattle.writing.proofs.Buffers.{put-before}
 use Rattle.writing.specs.Spelling.{decimal_length, spelled_length}
-use Rattle.summing.specs.declared.SumAnswer.{SumAnswer}
 use Rattle.summing.specs.Outcome.{answer_in}
 use Rattle.summing.specs.Sum as sum
 use Rattle.merging.specs.declared.MergeAnswer.{MergeAnswer}
 use Rattle.merging.specs.Merge as merge
-use Rattle.scribing.specs.declared.SpellAnswer.{SpellAnswer}
 use Rattle.scribing.specs.Spell as spell
 use Rattle.answering.specs.declared.Answer.{Answer}
 use Rattle.answering.specs.Answers.{number_of, answer_of}
@@ -79,13 +77,13 @@ lent_so {number} {Success} needed width memory array listed zero = go (leb width
 safe_zero : {answer : Answer} → IsSafe answer → number_of answer ≡ 0
 safe_zero (safe roles assigns revokes goals pinned) = refl
 
-summed_zero : {answer : SumAnswer} → IsSummed answer → sum.number_of answer ≡ 0
+summed_zero : {answer : sum.SumAnswer} → IsSummed answer → sum.number_of answer ≡ 0
 summed_zero (summed pinned written) = refl
 
 merged_zero : {answer : MergeAnswer} → IsMerged answer → merge.number_of answer ≡ 0
 merged_zero (merged roles assigns revokes goals pinned written) = refl
 
-spelled_zero : {answer : SpellAnswer} → IsSpelled answer → spell.number_of answer ≡ 0
+spelled_zero : {answer : spell.SpellAnswer} → IsSpelled answer → spell.number_of answer ≡ 0
 spelled_zero (spelled written) = refl
 
 -- `arbac_check` answers 0 only where the answer is SAFE,
@@ -187,7 +185,7 @@ line_length_lem (Answer.Attacked steps user name goal) = simp length-append (ome
 line_length_lem (Answer.Unproved part number) = simp length-append (omega (arith, part_length part, decimal_length number))
 line_length_lem (Answer.Broken step) = simp length-append (omega (arith, decimal_length step))
 line_length_lem (Answer.Short steps) = simp length-append (omega (arith, decimal_length steps))
-line_length_lem (Answer.Refused number line) = simp length-append (omega (arith, decimal_length number, decimal_length line))
+line_length_lem (Answer.Refused refusal) = simp length-append (omega (arith, decimal_length refusal.number, decimal_length refusal.line))
 
 pub line_longest : (policy evidence : List ℕ) → length (check_line policy evidence) ≤ 128
 unfolding check_line

@@ -3,7 +3,7 @@ use Rattle.std.specs.Prelude.{ℕ, ◌≤◌, ◌<◌, Bool, List, ◌≡◌, lt
 use borrow.Author.Tests.{lt-leb, le-leb}
 use Rattle.std.proofs.Math.Bool.{true, false, cond}
 use Rattle.std.proofs.Math.Path.{refl, sym}
-use Rattle.std.proofs.Common.{ap, ◌∙◌, arith}
+use Rattle.std.proofs.Common.{ap, subst, ◌∙◌, arith}
 use Rattle.steps.proofs.PlaceLaws.{at_inside}
 use Rattle.reading.specs.Sound.{read_sound}
 use Rattle.ledgers.specs.Memory.{no_memory, in_memory}
@@ -16,7 +16,6 @@ use Rattle.answering.specs.Answers.{answer_of}
 use Rattle.running.specs.Named.{names_most}
 use Rattle.answering.proofs.AnswerExact.{attacked_exact}
 use Rattle.telling.specs.Numbers.{Told, UserListed}
-use Rattle.telling.specs.NumberLaws.{known_told}
 use Rattle.arbac.specs.Face.{no_room, room_for, told_number, told_in, buffer_told, lent_number, lent_in, buffer_lent}
 
 -- ---- the user of ATTACKED
@@ -33,7 +32,7 @@ user_listed policy evidence is = record {
 -- what is told of an answer is told of its equal
 pub told_as : {A : Type 0} (number_of : A → ℕ) (values_of : A → List ℕ) {answer other : A} {array after : List ℕ} {answered : ℕ} → answer ≡ other → Told (number_of answer) (values_of answer) array answered after
     → Told (number_of other) (values_of other) array answered after
-told_as number_of values_of same t = known_told number_of values_of (sym same) refl refl t
+told_as number_of values_of {array = array} {after} {answered} same t = subst (λ answer. Told (number_of answer) (values_of answer) array answered after) same t
 
 -- an array without room is left as it is, and 255 is answered
 pub no_room_lem : (width number : ℕ) (values array : List ℕ) → length array < width → (no_room ≡ told_number width number array) × (array ≡ told_in width values array)

@@ -2,10 +2,10 @@
 use Rattle.std.specs.Prelude.{ℕ, ◌≤◌, ◌<◌, Bool, cond, List, ◌↔◌, ◌≡◌, leb, length}
 use Rattle.writing.specs.Written.{put}
 use Rattle.ledgers.specs.Memory.{no_memory, in_memory}
-use Rattle.summing.specs.declared.SumAnswer.{SumAnswer}
 use Rattle.summing.specs.Outcome.{Outcome, buffer_after}
+use Rattle.summing.specs.Sum as sum
 use Rattle.merging.specs.declared.MergeAnswer.{MergeAnswer}
-use Rattle.scribing.specs.declared.SpellAnswer.{SpellAnswer}
+use Rattle.scribing.specs.Spell as spell
 use Rattle.answering.specs.declared.Answer.{Answer}
 
 -- The number that is no answer and no text.
@@ -48,16 +48,16 @@ pub data IsSafe : Answer → Type 0 where
   safe : (roles assigns revokes goals pinned : ℕ) → IsSafe (Answer.Safe roles assigns revokes goals pinned)
 
 -- The sum is written.
-pub data IsSummed : SumAnswer → Type 0 where
-  summed : (pinned written : ℕ) → IsSummed (SumAnswer.Summed pinned written)
+pub data IsSummed : sum.SumAnswer → Type 0 where
+  summed : (pinned written : ℕ) → IsSummed (sum.sum_made pinned written)
 
 -- The sum of a merge is written.
 pub data IsMerged : MergeAnswer → Type 0 where
   merged : (roles assigns revokes goals pinned written : ℕ) → IsMerged (MergeAnswer.Merged roles assigns revokes goals pinned written)
 
 -- The spelling is written.
-pub data IsSpelled : SpellAnswer → Type 0 where
-  spelled : (written : ℕ) → IsSpelled (SpellAnswer.Spelled written)
+pub data IsSpelled : spell.SpellAnswer → Type 0 where
+  spelled : (written : ℕ) → IsSpelled (spell.spelled written)
 
 -- What is answered is 255 exactly where the array has no room, and 0 exactly where it has room and the answer is a success.
 pub record Answered (width : ℕ) (array : List ℕ) (Success : Type 0) (answered : ℕ) : Type 0 where

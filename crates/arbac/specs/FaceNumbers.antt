@@ -1,5 +1,5 @@
 -- Which numbers answers have: 10 to 19 are refusals, so that no refusal has the number of a verdict, of success or of no room.
-use Rattle.std.specs.Prelude.{ℕ, ◌≤◌, Bool, true, false, cond, List, ◌≡◌, refl, leb, length}
+use Rattle.std.specs.Prelude.{ℕ, ◌≤◌, Bool, true, false, cond, List, ◌≡◌, refl, leb, length, Ok, Err}
 use Rattle.std.proofs.Common.{⊎_elim, lit≤, arith}
 use Rattle.model.specs.declared.Typing.{Typing as Table}
 use Rattle.tables.specs.declared.Name.{Name}
@@ -8,10 +8,8 @@ use Rattle.reading.specs.Policy.{Said, read_policy}
 use Rattle.reading.specs.PolicyExact.{policy_refusal_exact}
 use Rattle.typings.specs.TypingText.{read_typing, table_of}
 use Rattle.typings.specs.TypingRefusalExact.{typing_refusal_exact}
-use Rattle.judging.specs.declared.TypingVerdict.{TypingVerdict}
-use Rattle.judging.specs.Verdict.{typing_verdict, rules_verdict, pinned_names}
+use Rattle.judging.specs.Verdict.{TypingVerdict, typing_verdict, rules_verdict, pinned_names}
 use Rattle.spelling.specs.TypingText.{typing_text}
-use Rattle.summing.specs.declared.SumAnswer.{SumAnswer}
 use Rattle.summing.specs.Sums.{sum_of}
 use Rattle.summing.specs.Outcome.{Outcome, leaves, writes, answer_in, when_read, fits}
 use Rattle.summing.specs.Sum as sum
@@ -19,7 +17,6 @@ use Rattle.merging.specs.declared.MergeAnswer.{MergeAnswer}
 use Rattle.merging.specs.Directory.{same_directory}
 use Rattle.merging.specs.Merge as merge
 use Rattle.drafting.specs.PolicyText.{policy_text}
-use Rattle.scribing.specs.declared.SpellAnswer.{SpellAnswer}
 use Rattle.scribing.specs.Spell as spell
 use Rattle.answering.specs.declared.Answer.{Answer}
 use Rattle.answering.specs.Answers.{number_of, answer_of}
@@ -57,7 +54,7 @@ check_numbered policy evidence = go (answer_of policy evidence) refl
     go (Answer.Unproved part number) is = other (lit≤ tt) (lit≤ tt)
     go (Answer.Broken step) is = other (lit≤ tt) (lit≤ tt)
     go (Answer.Short steps) is = other (lit≤ tt) (lit≤ tt)
-    go (Answer.Refused number line) is = refusal number_of (Answer.Refused number line) (text_number (refused_number policy evidence is))
+    go (Answer.Refused why) is = refusal number_of (Answer.Refused why) (text_number (refused_number policy evidence is))
 
 -- ---- of sum, spell and merge
 
@@ -79,44 +76,44 @@ sum-written : (room : ℕ) (names : List Name) (t : Table) → Numbered sum.numb
 unfolding sum.sum_written answer_in
 sum-written room names t = go (fits room (typing_text names t))
   where
-    go : (b : Bool) → Numbered sum.number_of IsSummed (answer_in (cond b (writes (SumAnswer.Summed (pinned_names t (length names)) (length (typing_text names t))) (typing_text names t)) (leaves (SumAnswer.Refused 0 18 0))))
+    go : (b : Bool) → Numbered sum.number_of IsSummed (answer_in (cond b (writes (sum.sum_made (pinned_names t (length names)) (length (typing_text names t))) (typing_text names t)) (leaves (sum.sum_refused 0 18 0))))
     go true = record { listed = lit≤ tt; zero_only = λ none. summed _ _ }
     go false = other (lit≤ tt) (lit≤ tt)
 
 pub sum_numbered : (policy first second : List ℕ) (room : ℕ) → Numbered sum.number_of IsSummed (answer_in (sum.sum_outcome policy first second room))
 unfolding sum.sum_outcome
 sum_numbered policy first second room =
-    when_read_lem (Numbered sum.number_of IsSummed) (SumAnswer.Refused 1) (read_policy policy) _ (λ number line is. refusal sum.number_of (SumAnswer.Refused 1 number line) (policy_refused policy is)) (λ s.
-    when_read_lem (Numbered sum.number_of IsSummed) (SumAnswer.Refused 2) (read_typing s.roles first) _ (λ number line is. refusal sum.number_of (SumAnswer.Refused 2 number line) (typing_refused s.roles first is)) (λ t.
-    when_read_lem (Numbered sum.number_of IsSummed) (SumAnswer.Refused 3) (read_typing s.roles second) _ (λ number line is. refusal sum.number_of (SumAnswer.Refused 3 number line) (typing_refused s.roles second is)) (λ u.
+    when_read_lem (Numbered sum.number_of IsSummed) (sum.sum_refused 1) (read_policy policy) _ (λ number line is. refusal sum.number_of (sum.sum_refused 1 number line) (policy_refused policy is)) (λ s.
+    when_read_lem (Numbered sum.number_of IsSummed) (sum.sum_refused 2) (read_typing s.roles first) _ (λ number line is. refusal sum.number_of (sum.sum_refused 2 number line) (typing_refused s.roles first is)) (λ t.
+    when_read_lem (Numbered sum.number_of IsSummed) (sum.sum_refused 3) (read_typing s.roles second) _ (λ number line is. refusal sum.number_of (sum.sum_refused 3 number line) (typing_refused s.roles second is)) (λ u.
     sum-written room s.roles (sum_of (table_of t) (table_of u)))))
 
 spell_written_lem : (room : ℕ) (text : List ℕ) → Numbered spell.number_of IsSpelled (answer_in (spell.spell_written room text))
 unfolding spell.spell_written answer_in
 spell_written_lem room text = go (leb (length text) room)
   where
-    go : (b : Bool) → Numbered spell.number_of IsSpelled (answer_in (cond b (writes (SpellAnswer.Spelled (length text)) text) (leaves (SpellAnswer.Refused 20 0))))
+    go : (b : Bool) → Numbered spell.number_of IsSpelled (answer_in (cond b (writes (spell.spelled (length text)) text) (leaves (spell.unspelled 20 0))))
     go true = record { listed = lit≤ tt; zero_only = λ none. spelled _ }
     go false = other (lit≤ tt) (lit≤ tt)
 
 pub spell_numbered : (policy : List ℕ) (room : ℕ) → Numbered spell.number_of IsSpelled (answer_in (spell.spell_outcome policy room))
 unfolding spell.spell_outcome
 spell_numbered policy room =
-    when_read_lem (Numbered spell.number_of IsSpelled) SpellAnswer.Refused (read_policy policy) _ (λ number line is. refusal spell.number_of (SpellAnswer.Refused number line) (policy_refused policy is)) (λ s. spell_written_lem room (policy_text s))
+    when_read_lem (Numbered spell.number_of IsSpelled) spell.unspelled (read_policy policy) _ (λ number line is. refusal spell.number_of (spell.unspelled number line) (policy_refused policy is)) (λ s. spell_written_lem room (policy_text s))
 
 abbrev Fine : MergeAnswer → Type 0
 Fine = Numbered merge.number_of IsMerged
 
 -- what holds of a refusal and of what follows holds of either
-when_either : (b : Bool) (next : Outcome MergeAnswer) (number : ℕ) → (10 ≤ number) × (number ≤ 21) → Fine (answer_in next) → Fine (answer_in (cond b next (leaves (MergeAnswer.Refused 0 number 0))))
+when_either : (b : Bool) (next : Outcome MergeAnswer) (number : ℕ) → (10 ≤ number) × (number ≤ 21) → Fine (answer_in next) → Fine (answer_in (cond b next (leaves (merge.merge_refused 0 number 0))))
 unfolding answer_in
 when_either true next number r fine = fine
-when_either false next number r fine = refusal merge.number_of (MergeAnswer.Refused 0 number 0) r
+when_either false next number r fine = refusal merge.number_of (merge.merge_refused 0 number 0) r
 
 merge_accepted : (which : ℕ) (v : TypingVerdict) (next : Outcome MergeAnswer) → Fine (answer_in next) → Fine (answer_in (merge.when_accepted which v next))
 unfolding merge.when_accepted answer_in
-merge_accepted which TypingVerdict.Accepted next fine = fine
-merge_accepted which (TypingVerdict.Fails part number) next fine = other (lit≤ tt) (lit≤ tt)
+merge_accepted which (Ok _) next fine = fine
+merge_accepted which (Err failure) next fine = other (lit≤ tt) (lit≤ tt)
 
 merge_judged_lem : (room : ℕ) (s : Said) (t : Table) (s' : Said) (u : Table) → Fine (answer_in (merge.merge_judged room s t s' u))
 unfolding merge.merge_judged merge.merge_counted merge.merge_written answer_in
@@ -132,8 +129,8 @@ merge_judged_lem room s t s' u =
 pub merge_numbered : (policy₁ typing₁ policy₂ typing₂ : List ℕ) (room : ℕ) → Fine (answer_in (merge.merge_outcome policy₁ typing₁ policy₂ typing₂ room))
 unfolding merge.merge_outcome merge.when_same
 merge_numbered policy₁ typing₁ policy₂ typing₂ room =
-    when_read_lem Fine (MergeAnswer.Refused 1) (read_policy policy₁) _ (λ number line is. refusal merge.number_of (MergeAnswer.Refused 1 number line) (policy_refused policy₁ is)) (λ s.
-    when_read_lem Fine (MergeAnswer.Refused 2) (read_typing s.roles typing₁) _ (λ number line is. refusal merge.number_of (MergeAnswer.Refused 2 number line) (typing_refused s.roles typing₁ is)) (λ t.
-    when_read_lem Fine (MergeAnswer.Refused 3) (read_policy policy₂) _ (λ number line is. refusal merge.number_of (MergeAnswer.Refused 3 number line) (policy_refused policy₂ is)) (λ s'.
-    when_read_lem Fine (MergeAnswer.Refused 4) (read_typing s'.roles typing₂) _ (λ number line is. refusal merge.number_of (MergeAnswer.Refused 4 number line) (typing_refused s'.roles typing₂ is)) (λ u.
+    when_read_lem Fine (merge.merge_refused 1) (read_policy policy₁) _ (λ number line is. refusal merge.number_of (merge.merge_refused 1 number line) (policy_refused policy₁ is)) (λ s.
+    when_read_lem Fine (merge.merge_refused 2) (read_typing s.roles typing₁) _ (λ number line is. refusal merge.number_of (merge.merge_refused 2 number line) (typing_refused s.roles typing₁ is)) (λ t.
+    when_read_lem Fine (merge.merge_refused 3) (read_policy policy₂) _ (λ number line is. refusal merge.number_of (merge.merge_refused 3 number line) (policy_refused policy₂ is)) (λ s'.
+    when_read_lem Fine (merge.merge_refused 4) (read_typing s'.roles typing₂) _ (λ number line is. refusal merge.number_of (merge.merge_refused 4 number line) (typing_refused s'.roles typing₂ is)) (λ u.
     when_either (same_directory s s') _ 17 (lit≤ tt, lit≤ tt) (merge_judged_lem room s (table_of t) s' (table_of u))))))

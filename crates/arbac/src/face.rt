@@ -1,5 +1,8 @@
 // The functions for C callers: plain numbers and slices, and nothing is asked of their values. What a function answers is the
 // number of an answer or of a text, and 255, which is neither, where the array is too short; then nothing is written.
+// Numbers for answers, texts and refusals, and a test of the array's room in each function: the C interface knows no Option or Result.
+#![tactic(auto, using(places::specs::PlaceLaws::place_ordered, crate::proofs::FaceLaws::user_listed), unfolding(crate::specs::Face::told_number, crate::specs::Face::told_in, crate::specs::Face::buffer_told, crate::specs::Face::room_for))]
+
 ghost use Rattle.std.specs.Prelude.{◌≡◌, length};
 ghost use Rattle.summing.specs.Outcome.{answer_in};
 ghost use Rattle.places.specs.Place.{bad_place, bad_typing_place};

@@ -1,5 +1,7 @@
 // The functions for C callers in memory that the caller lends, of any content. A function looks first whether the array has room,
 // 255 where it has none, and then whether the memory has the words that it needs, 254 where it has fewer; then nothing is written.
+#![tactic(auto, using(ledgers::specs::MemoryLaws::spared_all), unfolding(crate::specs::Face::lent_number, crate::specs::Face::lent_in, crate::specs::Face::buffer_lent, crate::specs::Face::told_number, crate::specs::Face::told_in, crate::specs::Face::buffer_told, crate::specs::Face::room_for, ledgers::specs::Memory::in_memory, places::specs::Place::lent_refusal))]
+
 ghost use Rattle.std.specs.Prelude.{◌≡◌, length};
 ghost use Rattle.ledgers.specs.Ledger.{ledger_words};
 ghost use Rattle.ledgers.specs.Memory.{in_memory, Spared};

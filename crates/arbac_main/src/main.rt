@@ -2,86 +2,55 @@
 // standard output, the line of the answer to standard error; where the text can't be written, there is no line.
 #![tactic(auto)]
 
+ghost use Rattle.std.specs.Prelude.{IfSome};
+ghost use Rattle.io.specs.Counts.{IsPrefixLen};
+
 use commands::{merge_of, spell_of, sum_of};
 use files::argument;
 use program::line_of;
+use reporting::Report;
 use std::io;
 use std::io::Write;
-use text::same;
 
-// Writes what was made.
-fn write(rt: &HostRuntime, text: &[u8], line: &[u8]) -> io::Result<()> {
-    rt.stdout().write_all(text)?;
-    rt.stderr().write_all(line)
-}
-
-// The verb `check`.
-fn check(rt: &HostRuntime) -> io::Result<()> {
-    let mut line = [0u8; 128];
-    let length = line_of(rt, b"policy.txt", b"evidence.txt", &mut line);
-    write(rt, b"", &line[..length])
-}
-
-// The verb `sum`.
-fn sum(rt: &HostRuntime) -> io::Result<()> {
-    let mut out = [0u8; 32768];
-    let mut line = [0u8; 192];
-    let report = sum_of(
-        rt,
-        b"policy.txt",
-        b"typing_1.txt",
-        b"typing_2.txt",
-        &mut out,
-        &mut line,
-    );
-    let text_length = report.text;
-    let line_length = report.line;
-    write(rt, &out[..text_length], &line[..line_length])
-}
-
-// The verb `merge`.
-fn merge(rt: &HostRuntime) -> io::Result<()> {
-    let mut out = [0u8; 32768];
-    let mut line = [0u8; 192];
-    let report = merge_of(
-        rt,
-        b"policy_1.txt",
-        b"typing_1.txt",
-        b"policy_2.txt",
-        b"typing_2.txt",
-        &mut out,
-        &mut line,
-    );
-    let text_length = report.text;
-    let line_length = report.line;
-    write(rt, &out[..text_length], &line[..line_length])
-}
-
-// The verb `spell`.
-fn spell(rt: &HostRuntime) -> io::Result<()> {
-    let mut out = [0u8; 32768];
-    let mut line = [0u8; 192];
-    let report = spell_of(rt, b"policy.txt", &mut out, &mut line);
-    let text_length = report.text;
-    let line_length = report.line;
-    write(rt, &out[..text_length], &line[..line_length])
+// Makes the text and the line of a verb; none of a word that is no verb. The line of `check` has no text beside it.
+fn report_of(rt: &HostRuntime, verb: &[u8], out: &mut [u8], line: &mut [u8]) -> Option<Report>
+    ensures { IfSome result (λ report. IsPrefixLen report.text out.new × IsPrefixLen report.line line.new) }
+{
+    match verb {
+        b"check" => Some(Report {
+            text: 0,
+            line: line_of(rt, b"policy.txt", b"evidence.txt", line),
+        }),
+        b"sum" => Some(sum_of(
+            rt,
+            b"policy.txt",
+            b"typing_1.txt",
+            b"typing_2.txt",
+            out,
+            line,
+        )),
+        b"merge" => Some(merge_of(
+            rt,
+            b"policy_1.txt",
+            b"typing_1.txt",
+            b"policy_2.txt",
+            b"typing_2.txt",
+            out,
+            line,
+        )),
+        b"spell" => Some(spell_of(rt, b"policy.txt", out, line)),
+        _ => None,
+    }
 }
 
 fn main(rt: HostRuntime) -> io::Result<()> {
     let mut word = [0u8; 16];
+    let mut out = [0u8; 32768];
+    let mut line = [0u8; 192];
     let length = argument(&rt, 1, &mut word);
-    let verb = &word[..length];
-    if same(verb, b"check") {
-        return check(&rt);
-    }
-    if same(verb, b"sum") {
-        return sum(&rt);
-    }
-    if same(verb, b"merge") {
-        return merge(&rt);
-    }
-    if same(verb, b"spell") {
-        return spell(&rt);
-    }
-    Ok(())
+    let Some(report) = report_of(&rt, &word[..length], &mut out, &mut line) else {
+        return Ok(());
+    };
+    rt.stdout().write_all(&out[..report.text])?;
+    rt.stderr().write_all(&line[..report.line])
 }

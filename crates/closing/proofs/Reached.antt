@@ -62,8 +62,8 @@ module _ {said : Turned} {now news : Pair} (noted : Noted said now news) {needin
         λ i. record { held = helds i; absent = absents i }
 
     -- whether that is nothing
-    pub test_here : {none : RoleSet} {no_held no_absent : Bool} → none ≡ empty_set → no_held ≡ same_set new_held none → no_absent ≡ same_set new_absent none
-        → (no_held && no_absent) ≡ same_pair (new_in now (round_of said now)) no_pair
+    pub test_here : {none_held none_absent : RoleSet} {nothing : Bool} → none_held ≡ empty_set → none_absent ≡ empty_set
+        → nothing ≡ (same_set new_held none_held && same_set new_absent none_absent) → nothing ≡ same_pair (new_in now (round_of said now)) no_pair
     unfolding same_pair no_pair
-    test_here none held_test absent_test =
-        ap₂ ◌&&◌ (held_test ∙ ap₂ same_set (ap (λ (p : Pair). p.held) news_here) none) (absent_test ∙ ap₂ same_set (ap (λ (p : Pair). p.absent) news_here) none)
+    test_here none_held none_absent tested =
+        tested ∙ ap₂ ◌&&◌ (ap₂ same_set (ap (λ (p : Pair). p.held) news_here) none_held) (ap₂ same_set (ap (λ (p : Pair). p.absent) news_here) none_absent)

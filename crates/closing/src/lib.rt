@@ -9,7 +9,7 @@ use roles::RoleSet;
 use sheets::{Column, sets_of};
 
 // A pair of role sets: roles known to be held, roles known to be absent.
-#[derive(Clone, Copy)]
+#[derive(Clone, Copy, PartialEq, Eq)]
 pub struct Pair {
     pub held: RoleSet,
     pub absent: RoleSet,
@@ -21,11 +21,13 @@ pub struct Pair {
 pub fn close(sheet: &[u64; 1026], pair: Pair) -> Pair
     ensures { result ≡ close_of (said_in sheet.now) pair }
 {
-    let none = RoleSet::empty();
+    let none = Pair {
+        held: RoleSet::empty(),
+        absent: RoleSet::empty(),
+    };
     let mut now = pair;
     let mut news = pair;
-    let mut changes: usize = 0;
-    while changes < 256 {
+    for _ in 0..256usize {
         let needing = sets_of(sheet, Column::Needed, news.absent);
         let barred = sets_of(sheet, Column::Minus, news.held);
         let absent = now.absent.union(needing).union(barred);
@@ -35,10 +37,9 @@ pub fn close(sheet: &[u64; 1026], pair: Pair) -> Pair
             absent: absent.less(now.absent),
         };
         now = Pair { held, absent };
-        if news.held.same(none) & news.absent.same(none) {
+        if news == none {
             return now;
         }
-        changes += 1;
     }
     now
 }

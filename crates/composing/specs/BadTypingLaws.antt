@@ -5,9 +5,8 @@ use Rattle.walking.specs.Texts.{read, refused}
 use Rattle.reading.specs.Policy.{Said, read_policy}
 use Rattle.typings.specs.TypingText.{read_typing}
 use Rattle.places.specs.PlaceLaws.{after_refused, typing_refused}
-use Rattle.summing.specs.declared.SumAnswer.{SumAnswer}
 use Rattle.summing.specs.Outcome.{Outcome, answer_in}
-use Rattle.summing.specs.Sum.{sum_outcome}
+use Rattle.summing.specs.Sum.{SumAnswer, sum_outcome}
 use Rattle.merging.specs.declared.MergeAnswer.{MergeAnswer}
 use Rattle.merging.specs.Merge.{merge_outcome}
 use Rattle.composing.specs.SumRules.{summed, Sums}

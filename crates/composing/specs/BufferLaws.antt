@@ -1,12 +1,11 @@
 -- What sum and merge leave in the buffer.
-use Rattle.std.specs.Prelude.{ℕ, false, List, ◌≡◌, length, take, drop}
+use Rattle.std.specs.Prelude.{ℕ, false, List, ◌≡◌, length, take, drop, get_or}
 use Rattle.std.proofs.Common.{sym, ap, subst, ◌∙◌}
 use Rattle.reading.specs.Policy.{Said}
 use Rattle.typings.specs.TypingText.{Typed}
 use Rattle.writing.proofs.Buffers.{put-before, put-past}
-use Rattle.summing.specs.declared.SumAnswer.{SumAnswer}
 use Rattle.summing.specs.Outcome.{Outcome, leaves, writes, answer_in, buffer_after}
-use Rattle.summing.specs.Sum.{sum_outcome}
+use Rattle.summing.specs.Sum.{SumAnswer, sum_made, values_of, sum_outcome}
 use Rattle.merging.specs.declared.MergeAnswer.{MergeAnswer}
 use Rattle.merging.specs.Merge.{merge_outcome}
 use Rattle.composing.specs.SumRules.{sum_text, summed, is_summed, SumTexts}
@@ -32,13 +31,13 @@ unfolding buffer_after
 untouched {A} buffer is = ap (λ (o : Outcome A). buffer_after o buffer) is
 
 -- Success of sum, and of merge, fills it with the text of the sum, of the length that it answers.
-pub sum-filled : (s : Said) (t u : Typed) {outcome : Outcome SumAnswer} {pinned written : ℕ} (buffer : List ℕ) → outcome ≡ summed s t u → answer_in outcome ≡ SumAnswer.Summed pinned written
+pub sum-filled : (s : Said) (t u : Typed) {outcome : Outcome SumAnswer} {pinned written : ℕ} (buffer : List ℕ) → outcome ≡ summed s t u → answer_in outcome ≡ sum_made pinned written
     → Filled (sum_text s t u) written buffer (buffer_after outcome buffer)
 unfolding answer_in summed
 sum-filled s t u {pinned = pinned} {written = written} buffer told is = filled buffer told (go (sym (ap answer_in told) ∙ is))
   where
-    go : {p n : ℕ} → SumAnswer.Summed p n ≡ SumAnswer.Summed pinned written → n ≡ written
-    go e = cc
+    go : {p n : ℕ} → sum_made p n ≡ sum_made pinned written → n ≡ written
+    go e = ap (λ (values : List ℕ). get_or values 1 0) (ap values_of e)
 
 pub merge_filled : (s : Said) (t : Typed) (s' : Said) (u : Typed) {outcome : Outcome MergeAnswer} {roles assigns revokes goals pinned written : ℕ} (buffer : List ℕ) → outcome ≡ merged s t s' u
     → answer_in outcome ≡ MergeAnswer.Merged roles assigns revokes goals pinned written → Filled (sum_text s t u) written buffer (buffer_after outcome buffer)
@@ -54,7 +53,7 @@ module _ (policy first second : List ℕ) (room : ℕ) (buffer : List ℕ) where
   sum_unchanged none = untouched buffer (sum_leaves policy first second room none)
 
   -- Success puts the sum's text into it, of the length that it answers.
-  pub sum_fills : {pinned written : ℕ} → answer_in (sum_outcome policy first second room) ≡ SumAnswer.Summed pinned written
+  pub sum_fills : {pinned written : ℕ} → answer_in (sum_outcome policy first second room) ≡ sum_made pinned written
       → SumTexts policy first second (λ s t u. Filled (sum_text s t u) written buffer (buffer_after (sum_outcome policy first second room) buffer))
   unfolding is_summed
   sum_fills is = sum_so policy first second (λ s t u _ _ _ holds. sum-filled s t u buffer holds.1 is) (sum_success policy first second room (ap is_summed is))

@@ -11,9 +11,8 @@ use Rattle.judging.specs.declared.Part.{Part}
 use Rattle.judging.specs.Verdict.{typing_verdict, rules_verdict}
 use Rattle.summing.specs.Sums.{sum_of}
 use Rattle.summing.specs.Outcome.{leaves}
-use Rattle.merging.specs.declared.MergeAnswer.{MergeAnswer}
 use Rattle.merging.specs.Directory.{SameDirectory}
-use Rattle.merging.specs.Merge.{counts_fit, merge_written, merge_counted, merge_judged}
+use Rattle.merging.specs.Merge.{merge_unproved, merge_refused, counts_fit, merge_written, merge_counted, merge_judged}
 use Rattle.composing.specs.MergeRules.{FirstUnproved, Passing}
 use Rattle.composing.specs.Judgings.{OnPolicy, FailsOnPolicy, OnRules, FailsOnRules, Judging, Failing, judged, passed, failed, on_own, on_other}
 
@@ -36,7 +35,7 @@ module _ (policy₁ typing₁ policy₂ typing₂ : List ℕ) {s s' : Said} {t u
 
   -- The first judging that fails is the answer.
   pub unproved_answer : {which number : ℕ} {part : Part} (room : ℕ) → FirstUnproved (meaning (table_of t)) (meaning (table_of u)) s s' which part number
-      → merge_judged room s (table_of t) s' (table_of u) ≡ leaves (MergeAnswer.Unproved which part number)
+      → merge_judged room s (table_of t) s' (table_of u) ≡ leaves (merge_unproved which part number)
   unfolding merge_judged
   unproved_answer room (FirstUnproved.one_on_one fail) = failed one_on_one 1 _ fail
   unproved_answer room (FirstUnproved.two_on_two one fail) = passed one_on_one 1 _ one ∙ failed two_on_two 2 _ fail
@@ -44,7 +43,7 @@ module _ (policy₁ typing₁ policy₂ typing₂ : List ℕ) {s s' : Said} {t u
   unproved_answer room (FirstUnproved.two_on_one one two cross fail) = passed one_on_one 1 _ one ∙ passed two_on_two 2 _ two ∙ passed one_on_two 3 _ cross ∙ failed two_on_one 4 _ fail
 
   -- Where all four pass the merge goes on to the counts and the text.
-  pub passing_answer : (room : ℕ) → Passing s t s' u → merge_judged room s (table_of t) s' (table_of u) ≡ cond (counts_fit s s') (merge_written room s s' (sum_of (table_of t) (table_of u))) (leaves (MergeAnswer.Refused 0 19 0))
+  pub passing_answer : (room : ℕ) → Passing s t s' u → merge_judged room s (table_of t) s' (table_of u) ≡ cond (counts_fit s s') (merge_written room s s' (sum_of (table_of t) (table_of u))) (leaves (merge_refused 0 19 0))
   unfolding merge_judged merge_counted
   passing_answer room pass =
       let all = pass.compatible in

@@ -1,5 +1,5 @@
 -- The four judgings of a merge over one directory: the verdict on each is exact.
-use Rattle.std.specs.Prelude.{ℕ, List, ◌↔◌, ◌⊎◌, ◌≡◌, refl, length}
+use Rattle.std.specs.Prelude.{ℕ, List, ◌↔◌, ◌⊎◌, ◌≡◌, refl, length, Ok, Err}
 use Rattle.std.proofs.Common.{inl, inr, subst}
 use Rattle.std.proofs.Math.Path.{ap}
 use Rattle.tables.specs.declared.Name.{Name}
@@ -12,15 +12,14 @@ use Rattle.walking.specs.Texts.{read}
 use Rattle.reading.specs.Policy.{Said, policy_of, read_policy}
 use Rattle.typings.specs.TypingText.{Typed, read_typing, table_of}
 use Rattle.judging.specs.declared.Part.{Part}
-use Rattle.judging.specs.declared.TypingVerdict.{TypingVerdict}
-use Rattle.judging.specs.Verdict.{typing_verdict, rules_verdict}
+use Rattle.judging.specs.Verdict.{TypingVerdict, accepted, unproved, typing_verdict, rules_verdict}
 use Rattle.judging.specs.TypingVerdictExact.{typing_accepted, rules_accepted, unproved_first, rules_first}
 use Rattle.judging.specs.Failures.{FirstRule, FirstFailure}
 use Rattle.verdicts.specs.PolicySized.{read_sized}
 use Rattle.verdicts.specs.Verdicts.{texts_laid}
 use Rattle.summing.specs.Outcome.{Outcome, leaves}
 use Rattle.merging.specs.declared.MergeAnswer.{MergeAnswer}
-use Rattle.merging.specs.Merge.{when_accepted}
+use Rattle.merging.specs.Merge.{merge_unproved, when_accepted}
 
 -- A typing is accepted on a policy, and its first failure there.
 abbrev pub OnPolicy : Said → Table → Type 0
@@ -38,8 +37,8 @@ FailsOnRules s t = FirstRule (meaning t) (policy_of s)
 
 -- A verdict is accepted exactly where so much passes, and a failure exactly where that is the first.
 pub record Judging (verdict : TypingVerdict) (Passes : Type 0) (Fails : Part → ℕ → Type 0) : Type 0 where
-  pub passes : verdict ≡ TypingVerdict.Accepted ↔ Passes
-  pub fails : (part : Part) (number : ℕ) → verdict ≡ TypingVerdict.Fails part number ↔ Fails part number
+  pub passes : verdict ≡ accepted ↔ Passes
+  pub fails : (part : Part) (number : ℕ) → verdict ≡ unproved part number ↔ Fails part number
 
 -- There is a first failure.
 abbrev pub Failing : (Part → ℕ → Type 0) → Type 0
@@ -51,8 +50,8 @@ module _ {verdict : TypingVerdict} {Passes : Type 0} {Fails : Part → ℕ → T
   judged = go verdict refl
     where
       go : (v : TypingVerdict) → verdict ≡ v → Passes ⊎ Failing Fails
-      go TypingVerdict.Accepted is = inl (judging.passes.0 is)
-      go (TypingVerdict.Fails part number) is = inr (part, number, (judging.fails part number).0 is)
+      go (Ok _) is = inl (judging.passes.0 is)
+      go (Err failure) is = inr (failure.part, failure.number, (judging.fails failure.part failure.number).0 is)
 
   -- Where it passes the merge goes on,
   pub passed : (which : ℕ) (next : Outcome MergeAnswer) → Passes → when_accepted which verdict next ≡ next
@@ -60,7 +59,7 @@ module _ {verdict : TypingVerdict} {Passes : Type 0} {Fails : Part → ℕ → T
   passed which next pass = ap (λ (v : TypingVerdict). when_accepted which v next) (judging.passes.1 pass)
 
   -- and the first failure is the answer.
-  pub failed : (which : ℕ) {number : ℕ} {part : Part} (next : Outcome MergeAnswer) → Fails part number → when_accepted which verdict next ≡ leaves (MergeAnswer.Unproved which part number)
+  pub failed : (which : ℕ) {number : ℕ} {part : Part} (next : Outcome MergeAnswer) → Fails part number → when_accepted which verdict next ≡ leaves (merge_unproved which part number)
   unfolding when_accepted
   failed which {number} {part} next fail = ap (λ (v : TypingVerdict). when_accepted which v next) ((judging.fails part number).1 fail)
 

@@ -14,7 +14,7 @@ use Rattle.summing.specs.Outcome.{Outcome, leaves, answer_in, when_read}
 use Rattle.merging.specs.declared.MergeAnswer.{MergeAnswer}
 use Rattle.merging.specs.DirectoryLaws.{same_exact}
 use Rattle.merging.specs.Directory.{SameDirectory}
-use Rattle.merging.specs.Merge.{when_same, counts_fit, merge_written, merge_judged, merge_outcome}
+use Rattle.merging.specs.Merge.{merge_unproved, merge_refused, when_same, counts_fit, merge_written, merge_judged, merge_outcome}
 use Rattle.composing.specs.SumRules.{sum_text, TextFits}
 use Rattle.composing.specs.MergeRules.{FirstUnproved, Passing, CountsFit, merged, is_merged, MergeTexts, merge_texts, Merges}
 use Rattle.composing.specs.Outcomes.{when_read_lem, when_refused, decided, taken, left, fits_exact, rules_exact, when_success, when_other, Gives, answer_exact}
@@ -47,29 +47,29 @@ module _ (policy₁ typing₁ policy₂ typing₂ : List ℕ) (room : ℕ) where
 
   -- from typing two on, from policy two on, from typing one on
   abbrev from_typing_two : Said → Typed → Said → Outcome MergeAnswer
-  from_typing_two s t s' = when_read (MergeAnswer.Refused 4) (read_typing s'.roles typing₂) (λ u. when_same s s' (merge_judged room s (table_of t) s' (table_of u)))
+  from_typing_two s t s' = when_read (merge_refused 4) (read_typing s'.roles typing₂) (λ u. when_same s s' (merge_judged room s (table_of t) s' (table_of u)))
 
   abbrev from_policy_two : Said → Typed → Outcome MergeAnswer
-  from_policy_two s t = when_read (MergeAnswer.Refused 3) (read_policy policy₂) (from_typing_two s t)
+  from_policy_two s t = when_read (merge_refused 3) (read_policy policy₂) (from_typing_two s t)
 
   abbrev from_typing_one : Said → Outcome MergeAnswer
-  from_typing_one s = when_read (MergeAnswer.Refused 2) (read_typing s.roles typing₁) (from_policy_two s)
+  from_typing_one s = when_read (merge_refused 2) (read_typing s.roles typing₁) (from_policy_two s)
 
   -- policy one is read; typing one too; policy two too
   after_one : {s : Said} → read_policy policy₁ ≡ read s → merge_outcome policy₁ typing₁ policy₂ typing₂ room ≡ from_typing_one s
   unfolding merge_outcome
-  after_one policy_one = when_read_lem (MergeAnswer.Refused 1) from_typing_one policy_one
+  after_one policy_one = when_read_lem (merge_refused 1) from_typing_one policy_one
 
   after_two : {s : Said} {t : Typed} → read_policy policy₁ ≡ read s → read_typing s.roles typing₁ ≡ read t → merge_outcome policy₁ typing₁ policy₂ typing₂ room ≡ from_policy_two s t
-  after_two {s} policy_one typing_one = after_one policy_one ∙ when_read_lem (MergeAnswer.Refused 2) (from_policy_two s) typing_one
+  after_two {s} policy_one typing_one = after_one policy_one ∙ when_read_lem (merge_refused 2) (from_policy_two s) typing_one
 
   after_three : {s s' : Said} {t : Typed} → read_policy policy₁ ≡ read s → read_typing s.roles typing₁ ≡ read t → read_policy policy₂ ≡ read s' → merge_outcome policy₁ typing₁ policy₂ typing₂ room ≡ from_typing_two s t s'
-  after_three {s} {s'} {t} policy_one typing_one policy_two = after_two policy_one typing_one ∙ when_read_lem (MergeAnswer.Refused 3) (from_typing_two s t) policy_two
+  after_three {s} {s'} {t} policy_one typing_one policy_two = after_two policy_one typing_one ∙ when_read_lem (merge_refused 3) (from_typing_two s t) policy_two
 
   module _ {Holds : Said → Typed → Said → Typed → Type 0} (texts : MergeTexts policy₁ typing₁ policy₂ typing₂ Holds) where
     -- all four, then one directory, then the four judgings
     after_four : merge_outcome policy₁ typing₁ policy₂ typing₂ room ≡ when_same texts.said₁ texts.said₂ (merge_judged room texts.said₁ (table_of texts.typed₁) texts.said₂ (table_of texts.typed₂))
-    after_four = after_three texts.policy_one texts.typing_one texts.policy_two ∙ when_read_lem (MergeAnswer.Refused 4) _ texts.typing_two
+    after_four = after_three texts.policy_one texts.typing_one texts.policy_two ∙ when_read_lem (merge_refused 4) _ texts.typing_two
 
     after_same : SameDirectory texts.said₁ texts.said₂ → merge_outcome policy₁ typing₁ policy₂ typing₂ room ≡ merge_judged room texts.said₁ (table_of texts.typed₁) texts.said₂ (table_of texts.typed₂)
     unfolding when_same
@@ -77,7 +77,7 @@ module _ (policy₁ typing₁ policy₂ typing₂ : List ℕ) (room : ℕ) where
 
     -- all four pass, and the joint counts are within their limits
     after_judging : Passing texts.said₁ texts.typed₁ texts.said₂ texts.typed₂
-        → merge_outcome policy₁ typing₁ policy₂ typing₂ room ≡ cond (counts_fit texts.said₁ texts.said₂) (merge_written room texts.said₁ texts.said₂ (sum_of (table_of texts.typed₁) (table_of texts.typed₂))) (leaves (MergeAnswer.Refused 0 19 0))
+        → merge_outcome policy₁ typing₁ policy₂ typing₂ room ≡ cond (counts_fit texts.said₁ texts.said₂) (merge_written room texts.said₁ texts.said₂ (sum_of (table_of texts.typed₁) (table_of texts.typed₂))) (leaves (merge_refused 0 19 0))
     after_judging pass =
         after_same pass.directory
         ∙ passing_answer policy₁ typing₁ policy₂ typing₂ texts.policy_one texts.typing_one texts.policy_two texts.typing_two pass.directory room pass
@@ -89,10 +89,10 @@ module _ (policy₁ typing₁ policy₂ typing₂ : List ℕ) (room : ℕ) where
   -- the outcome of each rule
   ruled : {outcome : Outcome MergeAnswer} → Merges policy₁ typing₁ policy₂ typing₂ room outcome → merge_outcome policy₁ typing₁ policy₂ typing₂ room ≡ outcome
   unfolding merge_outcome when_same merge_written sum_text merged
-  ruled (Merges.no_policy_one one) = when_refused (MergeAnswer.Refused 1) from_typing_one one
-  ruled (Merges.no_typing_one {s = s} one two) = after_one one ∙ when_refused (MergeAnswer.Refused 2) (from_policy_two s) two
-  ruled (Merges.no_policy_two {s = s} {t = t} one two three) = after_two one two ∙ when_refused (MergeAnswer.Refused 3) (from_typing_two s t) three
-  ruled (Merges.no_typing_two one two three four) = after_three one two three ∙ when_refused (MergeAnswer.Refused 4) _ four
+  ruled (Merges.no_policy_one one) = when_refused (merge_refused 1) from_typing_one one
+  ruled (Merges.no_typing_one {s = s} one two) = after_one one ∙ when_refused (merge_refused 2) (from_policy_two s) two
+  ruled (Merges.no_policy_two {s = s} {t = t} one two three) = after_two one two ∙ when_refused (merge_refused 3) (from_typing_two s t) three
+  ruled (Merges.no_typing_two one two three four) = after_three one two three ∙ when_refused (merge_refused 4) _ four
   ruled (Merges.differing texts) = after_four texts ∙ left (same_exact texts.said₁ texts.said₂) _ _ texts.holds
   ruled (Merges.unproved texts) =
       after_same texts texts.holds.0
@@ -111,19 +111,19 @@ module _ (policy₁ typing₁ policy₂ typing₂ : List ℕ) (room : ℕ) where
     -- where all four are read: the length of the text, before it the counts, before them the judgings, before those the directory
     at_text : Passing s t s' u → CountsFit s s' → TextFits room (sum_text s t u) ⊎ (TextFits room (sum_text s t u) → ⊥) → Ruled
     at_text pass few (inl fit) = (merged s t s' u, Merges.fitting (merge_texts policy₁ typing₁ policy₂ typing₂ one two three four (pass, few, fit)))
-    at_text pass few (inr over) = (leaves (MergeAnswer.Refused 0 18 0), Merges.long (merge_texts policy₁ typing₁ policy₂ typing₂ one two three four (pass, few, over)))
+    at_text pass few (inr over) = (leaves (merge_refused 0 18 0), Merges.long (merge_texts policy₁ typing₁ policy₂ typing₂ one two three four (pass, few, over)))
 
     at_counts : Passing s t s' u → CountsFit s s' ⊎ (CountsFit s s' → ⊥) → Ruled
     at_counts pass (inl few) = at_text pass few (decided (fits_exact room (sum_text s t u)))
-    at_counts pass (inr over) = (leaves (MergeAnswer.Refused 0 19 0), Merges.many (merge_texts policy₁ typing₁ policy₂ typing₂ one two three four (pass, over)))
+    at_counts pass (inr over) = (leaves (merge_refused 0 19 0), Merges.many (merge_texts policy₁ typing₁ policy₂ typing₂ one two three four (pass, over)))
 
     at_judging : SameDirectory s s' → Passing s t s' u ⊎ ((which : ℕ) × (part : Part) × (number : ℕ) × FirstUnproved (meaning (table_of t)) (meaning (table_of u)) s s' which part number) → Ruled
     at_judging same (inl pass) = at_counts pass (decided (counts_exact s s'))
-    at_judging same (inr (which, part, number, fail)) = (leaves (MergeAnswer.Unproved which part number), Merges.unproved (merge_texts policy₁ typing₁ policy₂ typing₂ one two three four (same, fail)))
+    at_judging same (inr (which, part, number, fail)) = (leaves (merge_unproved which part number), Merges.unproved (merge_texts policy₁ typing₁ policy₂ typing₂ one two three four (same, fail)))
 
     at_directory : SameDirectory s s' ⊎ (SameDirectory s s' → ⊥) → Ruled
     at_directory (inl same) = at_judging same (judgings policy₁ typing₁ policy₂ typing₂ one two three four same)
-    at_directory (inr differ) = (leaves (MergeAnswer.Refused 0 17 0), Merges.differing (merge_texts policy₁ typing₁ policy₂ typing₂ one two three four differ))
+    at_directory (inr differ) = (leaves (merge_refused 0 17 0), Merges.differing (merge_texts policy₁ typing₁ policy₂ typing₂ one two three four differ))
 
   -- the texts in their order
   some_rule : Ruled
@@ -131,19 +131,19 @@ module _ (policy₁ typing₁ policy₂ typing₂ : List ℕ) (room : ℕ) where
     where
       at_four : {s s' : Said} {t : Typed} → read_policy policy₁ ≡ read s → read_typing s.roles typing₁ ≡ read t → read_policy policy₂ ≡ read s' → (r : Reading Typed) → read_typing s'.roles typing₂ ≡ r → Ruled
       at_four {s} {s'} one two three (read u) four = at_directory one two three four (decided (same_exact s s'))
-      at_four one two three (refused number line) four = (leaves (MergeAnswer.Refused 4 number line), Merges.no_typing_two one two three four)
+      at_four one two three (refused number line) four = (leaves (merge_refused 4 number line), Merges.no_typing_two one two three four)
 
       at_three : {s : Said} {t : Typed} → read_policy policy₁ ≡ read s → read_typing s.roles typing₁ ≡ read t → (r : Reading Said) → read_policy policy₂ ≡ r → Ruled
       at_three one two (read s') three = at_four one two three (read_typing s'.roles typing₂) refl
-      at_three one two (refused number line) three = (leaves (MergeAnswer.Refused 3 number line), Merges.no_policy_two one two three)
+      at_three one two (refused number line) three = (leaves (merge_refused 3 number line), Merges.no_policy_two one two three)
 
       at_two : {s : Said} → read_policy policy₁ ≡ read s → (r : Reading Typed) → read_typing s.roles typing₁ ≡ r → Ruled
       at_two one (read t) two = at_three one two (read_policy policy₂) refl
-      at_two one (refused number line) two = (leaves (MergeAnswer.Refused 2 number line), Merges.no_typing_one one two)
+      at_two one (refused number line) two = (leaves (merge_refused 2 number line), Merges.no_typing_one one two)
 
       at_one : (r : Reading Said) → read_policy policy₁ ≡ r → Ruled
       at_one (read s) one = at_two one (read_typing s.roles typing₁) refl
-      at_one (refused number line) one = (leaves (MergeAnswer.Refused 1 number line), Merges.no_policy_one one)
+      at_one (refused number line) one = (leaves (merge_refused 1 number line), Merges.no_policy_one one)
 
   -- The answer of merge and what it writes are those of a rule, exactly.
   pub merge_exact : (outcome : Outcome MergeAnswer) → merge_outcome policy₁ typing₁ policy₂ typing₂ room ≡ outcome ↔ Merges policy₁ typing₁ policy₂ typing₂ room outcome

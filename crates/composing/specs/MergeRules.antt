@@ -12,6 +12,7 @@ use Rattle.summing.specs.Sums.{sum_of}
 use Rattle.summing.specs.Outcome.{Outcome, leaves, writes}
 use Rattle.merging.specs.declared.MergeAnswer.{MergeAnswer}
 use Rattle.merging.specs.Directory.{SameDirectory}
+use Rattle.merging.specs.Merge.{merge_unproved, merge_refused}
 use Rattle.composing.specs.SumRules.{sum_text, TextFits}
 
 -- The first of the four judgings that fails, with the part and the number of its first failure: typing one on policy one,
@@ -46,8 +47,8 @@ merged s t s' u =
 -- Whether an answer is success.
 unfoldable pub is_merged : MergeAnswer → Bool
 is_merged (MergeAnswer.Merged roles assigns revokes goals pinned written) = true
-is_merged (MergeAnswer.Unproved which part number) = false
-is_merged (MergeAnswer.Refused which number line) = false
+is_merged (MergeAnswer.Unproved which failure) = false
+is_merged (MergeAnswer.Refused which refusal) = false
 
 module _ (policy₁ typing₁ policy₂ typing₂ : List ℕ) where
   -- All four texts are read, and so much holds of them.
@@ -79,16 +80,16 @@ module _ (policy₁ typing₁ policy₂ typing₂ : List ℕ) where
 
   -- The rules of merge: the answer, and what is written with it. A refusal's first number says which text it speaks of, 0 none.
   pub data Merges (room : ℕ) : Outcome MergeAnswer → Type 0 where
-    no_policy_one : {number line : ℕ} → read_policy policy₁ ≡ refused number line → Merges room (leaves (MergeAnswer.Refused 1 number line))
-    no_typing_one : {s : Said} {number line : ℕ} → read_policy policy₁ ≡ read s → read_typing s.roles typing₁ ≡ refused number line → Merges room (leaves (MergeAnswer.Refused 2 number line))
+    no_policy_one : {number line : ℕ} → read_policy policy₁ ≡ refused number line → Merges room (leaves (merge_refused 1 number line))
+    no_typing_one : {s : Said} {number line : ℕ} → read_policy policy₁ ≡ read s → read_typing s.roles typing₁ ≡ refused number line → Merges room (leaves (merge_refused 2 number line))
     no_policy_two : {s : Said} {t : Typed} {number line : ℕ} → read_policy policy₁ ≡ read s → read_typing s.roles typing₁ ≡ read t → read_policy policy₂ ≡ refused number line
-        → Merges room (leaves (MergeAnswer.Refused 3 number line))
+        → Merges room (leaves (merge_refused 3 number line))
     no_typing_two : {s s' : Said} {t : Typed} {number line : ℕ} → read_policy policy₁ ≡ read s → read_typing s.roles typing₁ ≡ read t → read_policy policy₂ ≡ read s' → read_typing s'.roles typing₂ ≡ refused number line
-        → Merges room (leaves (MergeAnswer.Refused 4 number line))
-    differing : MergeTexts (λ s t s' u. SameDirectory s s' → ⊥) → Merges room (leaves (MergeAnswer.Refused 0 17 0))
+        → Merges room (leaves (merge_refused 4 number line))
+    differing : MergeTexts (λ s t s' u. SameDirectory s s' → ⊥) → Merges room (leaves (merge_refused 0 17 0))
     unproved : {which number : ℕ} {part : Part} → MergeTexts (λ s t s' u. SameDirectory s s' × FirstUnproved (meaning (table_of t)) (meaning (table_of u)) s s' which part number)
-        → Merges room (leaves (MergeAnswer.Unproved which part number))
-    many : MergeTexts (λ s t s' u. Passing s t s' u × (CountsFit s s' → ⊥)) → Merges room (leaves (MergeAnswer.Refused 0 19 0))
-    long : MergeTexts (λ s t s' u. Passing s t s' u × CountsFit s s' × (TextFits room (sum_text s t u) → ⊥)) → Merges room (leaves (MergeAnswer.Refused 0 18 0))
+        → Merges room (leaves (merge_unproved which part number))
+    many : MergeTexts (λ s t s' u. Passing s t s' u × (CountsFit s s' → ⊥)) → Merges room (leaves (merge_refused 0 19 0))
+    long : MergeTexts (λ s t s' u. Passing s t s' u × CountsFit s s' × (TextFits room (sum_text s t u) → ⊥)) → Merges room (leaves (merge_refused 0 18 0))
     fitting : (texts : MergeTexts (λ s t s' u. Passing s t s' u × CountsFit s s' × TextFits room (sum_text s t u)))
         → Merges room (merged texts.said₁ texts.typed₁ texts.said₂ texts.typed₂)

@@ -1,5 +1,5 @@
 -- The pinned count that sum or merge answers is the number of names in the plus and minus fields of the text that it writes.
-use Rattle.std.specs.Prelude.{ℕ, List, ◌≡◌, length, take}
+use Rattle.std.specs.Prelude.{ℕ, List, ◌≡◌, length, take, get_or}
 use Rattle.std.proofs.Common.{sym, ap, ◌∙◌}
 use Rattle.model.specs.declared.Typing.{Typing as Table}
 use Rattle.walking.specs.Texts.{read}
@@ -9,10 +9,9 @@ use Rattle.judging.specs.Verdict.{pinned_names}
 use Rattle.rereading.specs.Fits.{Fits, fits_read}
 use Rattle.spelt.specs.Pinned.{names_in}
 use Rattle.spelt.specs.PinnedExact.{pinned_counts}
-use Rattle.summing.specs.declared.SumAnswer.{SumAnswer}
 use Rattle.summing.specs.Sums.{sum_of}
 use Rattle.summing.specs.Outcome.{answer_in, buffer_after}
-use Rattle.summing.specs.Sum.{sum_outcome}
+use Rattle.summing.specs.Sum.{sum_made, values_of, sum_outcome}
 use Rattle.merging.specs.declared.MergeAnswer.{MergeAnswer}
 use Rattle.merging.specs.Merge.{merge_outcome}
 use Rattle.composing.specs.SumRules.{sum_text, TextFits, summed, is_summed}
@@ -34,7 +33,7 @@ text_pinned policy {s} {t} {u} reads one two fit filled =
     ∙ ap names_in (sym filled.start)
 
 -- What sum answers as pinned,
-pub sum_pinned : (policy first second : List ℕ) (room : ℕ) {pinned written : ℕ} → answer_in (sum_outcome policy first second room) ≡ SumAnswer.Summed pinned written → (buffer : List ℕ)
+pub sum_pinned : (policy first second : List ℕ) (room : ℕ) {pinned written : ℕ} → answer_in (sum_outcome policy first second room) ≡ sum_made pinned written → (buffer : List ℕ)
     → pinned ≡ names_in (take written (buffer_after (sum_outcome policy first second room) buffer))
 unfolding is_summed answer_in summed
 sum_pinned policy first second room {pinned} {written} is buffer =
@@ -43,8 +42,8 @@ sum_pinned policy first second room {pinned} {written} is buffer =
     told (sym (ap answer_in texts.holds.1) ∙ is)
     ∙ text_pinned policy texts.policy_read (fits_read s.roles first texts.first_read) (fits_read s.roles second texts.second_read) texts.holds.0 (sum-filled s texts.one texts.two buffer texts.holds.1 is)
   where
-    told : {p n : ℕ} → SumAnswer.Summed p n ≡ SumAnswer.Summed pinned written → pinned ≡ p
-    told e = cc
+    told : {p n : ℕ} → sum_made p n ≡ sum_made pinned written → pinned ≡ p
+    told e = sym (ap (λ (values : List ℕ). get_or values 0 0) (ap values_of e))
 
 -- and what merge does.
 pub merge_pinned : (policy₁ typing₁ policy₂ typing₂ : List ℕ) (room : ℕ) {roles assigns revokes goals pinned written : ℕ}

@@ -6,10 +6,9 @@ use Rattle.reading.specs.Policy.{Said, read_policy}
 use Rattle.typings.specs.TypingText.{Typed, read_typing}
 use Rattle.reading.specs.Sound.{read_sound}
 use Rattle.rereading.specs.Fits.{Fits, fits_read}
-use Rattle.summing.specs.declared.SumAnswer.{SumAnswer}
 use Rattle.summing.specs.Sums.{sum_typed}
 use Rattle.summing.specs.Outcome.{answer_in, buffer_after}
-use Rattle.summing.specs.Sum.{sum_outcome}
+use Rattle.summing.specs.Sum.{sum_made, sum_outcome}
 use Rattle.merging.specs.declared.MergeAnswer.{MergeAnswer}
 use Rattle.merging.specs.Merge.{merge_outcome}
 use Rattle.composing.specs.SumRules.{sum_text, TextFits, is_summed, SumTexts}
@@ -27,7 +26,7 @@ unfolding sum_text
 text_back policy reads one two fit = sum_back one two (read_sound policy reads).roles.named fit.limit
 
 -- What sum writes, read over the same policy, is the sum.
-pub sum_reads_back : (policy first second : List ℕ) (room : ℕ) {pinned written : ℕ} → answer_in (sum_outcome policy first second room) ≡ SumAnswer.Summed pinned written → (buffer : List ℕ)
+pub sum_reads_back : (policy first second : List ℕ) (room : ℕ) {pinned written : ℕ} → answer_in (sum_outcome policy first second room) ≡ sum_made pinned written → (buffer : List ℕ)
     → SumTexts policy first second (λ s t u. read_typing s.roles (take written (buffer_after (sum_outcome policy first second room) buffer)) ≡ read (sum_typed t u))
 unfolding is_summed
 sum_reads_back policy first second room is buffer =

@@ -6,10 +6,9 @@ use Rattle.std.proofs.Common.{◌∙◌}
 use Rattle.walking.specs.Texts.{Reading, read, refused}
 use Rattle.reading.specs.Policy.{Said, read_policy}
 use Rattle.typings.specs.TypingText.{Typed, read_typing, table_of}
-use Rattle.summing.specs.declared.SumAnswer.{SumAnswer}
 use Rattle.summing.specs.Sums.{sum_of}
 use Rattle.summing.specs.Outcome.{Outcome, leaves, answer_in, when_read}
-use Rattle.summing.specs.Sum.{sum_written, sum_outcome}
+use Rattle.summing.specs.Sum.{SumAnswer, sum_refused, sum_written, sum_outcome}
 use Rattle.composing.specs.SumRules.{sum_text, TextFits, summed, is_summed, SumTexts, sum_texts, Sums}
 use Rattle.composing.specs.Outcomes.{when_read_lem, when_refused, decided, taken, left, fits_exact, rules_exact, when_success, when_other, Gives, answer_exact}
 
@@ -18,30 +17,30 @@ module _ (policy first second : List ℕ) (room : ℕ) where
 
   -- from the second typing on, and from the first on
   abbrev from_second : Said → Typed → Outcome SumAnswer
-  from_second s t = when_read (SumAnswer.Refused 3) (read_typing s.roles second) (λ u. sum_written room s.roles (sum_of (table_of t) (table_of u)))
+  from_second s t = when_read (sum_refused 3) (read_typing s.roles second) (λ u. sum_written room s.roles (sum_of (table_of t) (table_of u)))
 
   abbrev from_first : Said → Outcome SumAnswer
-  from_first s = when_read (SumAnswer.Refused 2) (read_typing s.roles first) (from_second s)
+  from_first s = when_read (sum_refused 2) (read_typing s.roles first) (from_second s)
 
   -- the policy is read; the first typing too
   after_policy : {s : Said} → read_policy policy ≡ read s → sum_outcome policy first second room ≡ from_first s
   unfolding sum_outcome
-  after_policy reads = when_read_lem (SumAnswer.Refused 1) from_first reads
+  after_policy reads = when_read_lem (sum_refused 1) from_first reads
 
   after_first : {s : Said} {t : Typed} → read_policy policy ≡ read s → read_typing s.roles first ≡ read t → sum_outcome policy first second room ≡ from_second s t
-  after_first {s} reads one = after_policy reads ∙ when_read_lem (SumAnswer.Refused 2) (from_second s) one
+  after_first {s} reads one = after_policy reads ∙ when_read_lem (sum_refused 2) (from_second s) one
 
   -- Where all are read, the sum is written or the answer is 18.
   pub after_second : {s : Said} {t u : Typed} → read_policy policy ≡ read s → read_typing s.roles first ≡ read t → read_typing s.roles second ≡ read u
       → sum_outcome policy first second room ≡ sum_written room s.roles (sum_of (table_of t) (table_of u))
-  after_second reads one two = after_first reads one ∙ when_read_lem (SumAnswer.Refused 3) _ two
+  after_second reads one two = after_first reads one ∙ when_read_lem (sum_refused 3) _ two
 
   -- the outcome of each rule
   ruled : {outcome : Outcome SumAnswer} → Sums policy first second room outcome → sum_outcome policy first second room ≡ outcome
   unfolding sum_outcome sum_written sum_text summed
-  ruled (Sums.no_policy reads) = when_refused (SumAnswer.Refused 1) from_first reads
-  ruled (Sums.no_first {s = s} reads one) = after_policy reads ∙ when_refused (SumAnswer.Refused 2) (from_second s) one
-  ruled (Sums.no_second reads one two) = after_first reads one ∙ when_refused (SumAnswer.Refused 3) _ two
+  ruled (Sums.no_policy reads) = when_refused (sum_refused 1) from_first reads
+  ruled (Sums.no_first {s = s} reads one) = after_policy reads ∙ when_refused (sum_refused 2) (from_second s) one
+  ruled (Sums.no_second reads one two) = after_first reads one ∙ when_refused (sum_refused 3) _ two
   ruled (Sums.long texts) = after_second texts.policy_read texts.first_read texts.second_read ∙ left (fits_exact room (sum_text texts.said texts.one texts.two)) _ _ texts.holds
   ruled (Sums.fitting texts) = after_second texts.policy_read texts.first_read texts.second_read ∙ taken (fits_exact room (sum_text texts.said texts.one texts.two)) _ _ texts.holds
 
@@ -57,19 +56,19 @@ module _ (policy first second : List ℕ) (room : ℕ) where
     where
       at_text : {s : Said} {t u : Typed} → read_policy policy ≡ read s → read_typing s.roles first ≡ read t → read_typing s.roles second ≡ read u → TextFits room (sum_text s t u) ⊎ (TextFits room (sum_text s t u) → ⊥) → Ruled
       at_text {s} {t} {u} reads one two (inl fit) = (summed s t u, Sums.fitting (sum_texts policy first second reads one two fit))
-      at_text reads one two (inr long) = (leaves (SumAnswer.Refused 0 18 0), Sums.long (sum_texts policy first second reads one two long))
+      at_text reads one two (inr long) = (leaves (sum_refused 0 18 0), Sums.long (sum_texts policy first second reads one two long))
 
       at_second : {s : Said} {t : Typed} → read_policy policy ≡ read s → read_typing s.roles first ≡ read t → (r : Reading Typed) → read_typing s.roles second ≡ r → Ruled
       at_second {s} {t} reads one (read u) two = at_text reads one two (decided (fits_exact room (sum_text s t u)))
-      at_second reads one (refused number line) two = (leaves (SumAnswer.Refused 3 number line), Sums.no_second reads one two)
+      at_second reads one (refused number line) two = (leaves (sum_refused 3 number line), Sums.no_second reads one two)
 
       at_first : {s : Said} → read_policy policy ≡ read s → (r : Reading Typed) → read_typing s.roles first ≡ r → Ruled
       at_first {s} reads (read t) one = at_second reads one (read_typing s.roles second) refl
-      at_first reads (refused number line) one = (leaves (SumAnswer.Refused 2 number line), Sums.no_first reads one)
+      at_first reads (refused number line) one = (leaves (sum_refused 2 number line), Sums.no_first reads one)
 
       at_policy : (r : Reading Said) → read_policy policy ≡ r → Ruled
       at_policy (read s) reads = at_first reads (read_typing s.roles first) refl
-      at_policy (refused number line) reads = (leaves (SumAnswer.Refused 1 number line), Sums.no_policy reads)
+      at_policy (refused number line) reads = (leaves (sum_refused 1 number line), Sums.no_policy reads)
 
   -- The answer of sum and what it writes are those of a rule, exactly.
   pub sum_exact : (outcome : Outcome SumAnswer) → sum_outcome policy first second room ≡ outcome ↔ Sums policy first second room outcome

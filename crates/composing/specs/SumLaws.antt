@@ -13,10 +13,9 @@ use Rattle.reading.specs.Policy.{Said, read_policy}
 use Rattle.typings.specs.TypingText.{Typed, read_typing, table_of}
 use Rattle.spelling.specs.TypingText.{typing_text}
 use Rattle.rereading.specs.Fits.{fits_read}
-use Rattle.summing.specs.declared.SumAnswer.{SumAnswer}
 use Rattle.summing.specs.Sums.{paired, sum_of, sum_typed}
 use Rattle.summing.specs.Outcome.{leaves, writes}
-use Rattle.summing.specs.Sum.{sum_written, sum_outcome}
+use Rattle.summing.specs.Sum.{SumAnswer, sum_written, sum_outcome}
 use Rattle.composing.specs.SumRules.{sum_text, TextFits}
 use Rattle.composing.specs.Outcomes.{decided, taken, left, fits_exact}
 use Rattle.composing.specs.SumExact.{after_second}

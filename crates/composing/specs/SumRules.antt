@@ -1,11 +1,11 @@
 -- When sum gives each answer, in the order of document 01: the policy is read, the first typing, the second, then 18.
-use Rattle.std.specs.Prelude.{ℕ, ◌≤◌, Bool, true, false, List, ◌≡◌, length}
+use Rattle.std.specs.Prelude.{ℕ, ◌≤◌, Bool, true, false, List, ◌≡◌, length, Ok, Err}
 use Rattle.walking.specs.Texts.{read, refused}
 use Rattle.reading.specs.Policy.{Said, read_policy}
 use Rattle.typings.specs.TypingText.{Typed, read_typing, table_of}
 use Rattle.judging.specs.Verdict.{pinned_names}
 use Rattle.spelling.specs.TypingText.{typing_text}
-use Rattle.summing.specs.declared.SumAnswer.{SumAnswer}
+use Rattle.summing.specs.Sum.{SumAnswer, sum_made, sum_refused}
 use Rattle.summing.specs.Sums.{sum_of}
 use Rattle.summing.specs.Outcome.{Outcome, leaves, writes}
 
@@ -20,12 +20,12 @@ pub record TextFits (room : ℕ) (text : List ℕ) : Type 0 where
 
 -- Success answers pinned and the text's length, and writes the text.
 unfoldable pub summed : Said → Typed → Typed → Outcome SumAnswer
-summed s t u = writes (SumAnswer.Summed (pinned_names (sum_of (table_of t) (table_of u)) (length s.roles)) (length (sum_text s t u))) (sum_text s t u)
+summed s t u = writes (sum_made (pinned_names (sum_of (table_of t) (table_of u)) (length s.roles)) (length (sum_text s t u))) (sum_text s t u)
 
 -- Whether an answer is success.
 unfoldable pub is_summed : SumAnswer → Bool
-is_summed (SumAnswer.Summed pinned written) = true
-is_summed (SumAnswer.Refused which number line) = false
+is_summed (Ok done) = true
+is_summed (Err failed) = false
 
 module _ (policy first second : List ℕ) where
   -- The policy and both typings are read, and so much holds of them.
@@ -44,9 +44,9 @@ module _ (policy first second : List ℕ) where
 
   -- The rules of sum: the answer, and what is written with it. A refusal's first number says which text it speaks of, 0 none.
   pub data Sums (room : ℕ) : Outcome SumAnswer → Type 0 where
-    no_policy : {number line : ℕ} → read_policy policy ≡ refused number line → Sums room (leaves (SumAnswer.Refused 1 number line))
-    no_first : {s : Said} {number line : ℕ} → read_policy policy ≡ read s → read_typing s.roles first ≡ refused number line → Sums room (leaves (SumAnswer.Refused 2 number line))
+    no_policy : {number line : ℕ} → read_policy policy ≡ refused number line → Sums room (leaves (sum_refused 1 number line))
+    no_first : {s : Said} {number line : ℕ} → read_policy policy ≡ read s → read_typing s.roles first ≡ refused number line → Sums room (leaves (sum_refused 2 number line))
     no_second : {s : Said} {t : Typed} {number line : ℕ} → read_policy policy ≡ read s → read_typing s.roles first ≡ read t → read_typing s.roles second ≡ refused number line
-        → Sums room (leaves (SumAnswer.Refused 3 number line))
-    long : SumTexts (λ s t u. TextFits room (sum_text s t u) → ⊥) → Sums room (leaves (SumAnswer.Refused 0 18 0))
+        → Sums room (leaves (sum_refused 3 number line))
+    long : SumTexts (λ s t u. TextFits room (sum_text s t u) → ⊥) → Sums room (leaves (sum_refused 0 18 0))
     fitting : (texts : SumTexts (λ s t u. TextFits room (sum_text s t u))) → Sums room (summed texts.said texts.one texts.two)

@@ -1,40 +1,33 @@
 -- A name that is missing in the tree is new, and is put into it by one link.
 use Prim.Native.Nat.{ℕ, suc, ◌+◌, ◌<◌, ◌≤◌}
-use Rattle.std.specs.Prelude.{Bool, true, false, List, reverse, ◌⊎◌, ◌≡◌, refl, length, set}
+use Rattle.std.specs.Prelude.{Bool, true, false, List, reverse, ◌⊎◌, ◌≡◌, refl, length, set, Option, Some, None, is_some}
 use Rattle.std.proofs.lemmas.List.{reverse-reverse}
 use Rattle.std.proofs.Math.Logic.{inl, inr, ⊎_elim}
 use Rattle.std.proofs.Math.Path.{sym, ap}
 use Rattle.std.proofs.Common.{◌∙◌, get_or-set_other, arith}
+use Rattle.std.proofs.lemmas.Bool.{false≢true}
 use Rattle.std.proofs.Math.ListN.{get_or}
 use Rattle.std.proofs.Math.Seq.{get_or-set_same}
 use Rattle.std.proofs.Math.Decide.{dec_lt, ℕ_discrete}
-use Rattle.text.specs.Pieces.{split, among, repeated}
+use Rattle.text.specs.Pieces.{among, repeated}
 use Rattle.distinct.specs.declared.Name.{Name}
-use Rattle.distinct.specs.declared.Search.{Search}
+use Rattle.distinct.specs.declared.Gap.{Gap}
 use Rattle.distinct.specs.Names.{symbol, before, names, Ended, before_comma, names_comma, names-ended}
 use Rattle.distinct.specs.Plain.{Plain, plain_ordered, plain_other, plain_rest, plain_names}
 use Rattle.distinct.specs.Heads.{head_of, head_below}
 use Rattle.distinct.specs.Tree.{Led, Tree, Kept, led_back, led_along, led_kept, set_kept}
 use Rattle.distinct.specs.Walk.{Missing}
-use Rattle.distinct.specs.Answers.{Named, Searched, twice, lacking}
+use Rattle.distinct.specs.Answers.{Named, Searched}
 
 -- the head of a name is one of the heads
 pub named-below : {field : List ℕ} {heads from : ℕ} {name : Name} → Named field heads from name → 0 < heads → name.head < heads
 named-below {field} {heads} {name = name} named some = rw named.head (head_below field heads (before field name.end) some)
 
--- a name that is found stands twice
-pub found_twice : {field links : List ℕ} {heads head from : ℕ} → Searched field links heads head from Search.Found → repeated (split 44 field) ≡ true
-found_twice (twice is) = is
-
--- a name that is not found is missing
-pub found_missing : {field links : List ℕ} {heads head from slot at : ℕ} → Searched field links heads head from (Search.Missing slot at) → Missing field links heads head from slot at
-found_missing (lacking is) = is
-
 module _ {field links : List ℕ} {heads from slot at : ℕ} {name : Name} (named : Named field heads from name)
-    (searched : Searched field links heads name.head from (Search.Missing slot at)) where
+    (searched : Missing field links heads name.head from slot at) where
   -- what is missing is the name under its head
   missing : Missing field links heads (head_of field heads (before field name.end)) from slot at
-  missing = rw named.head at (found_missing searched)
+  missing = rw named.head at searched
 
   -- what is left of the name
   rest : Plain field at name.end
@@ -107,3 +100,9 @@ module _ {field links : List ℕ} {heads from slot at : ℕ} {name : Name} (name
           stored = stored;
           single = rw (names_comma field name.end named.ends.comma, plain_names named.ends.plain, name_new tree) tree.single;
         }
+
+-- a name that is not found is not among those of the tree
+pub unfound_new : {field links : List ℕ} {heads from limit : ℕ} {name : Name} (search : Option Gap) → is_some search ≡ true → Named field heads from name → Searched field links heads name.head from search
+    → Tree field links heads limit → among (reverse (before field name.end)) (names field limit) ≡ false
+unfound_new None some named searched tree = absurd (false≢true some)
+unfound_new (Some gap) some named searched tree = name_new named searched tree

@@ -18,35 +18,28 @@ struct Name {
     head: usize,
 }
 
-// What looking a name up in the tree gives: it is found, or missing, with the slot whose link would have it found and the
-// place to which that link would lead.
+// Where a name is missing in the tree: the slot whose link would have it found, and the place to which that link would lead.
 #[derive(Clone, Copy)]
-enum Search {
-    Found,
-    Missing(usize, usize),
+struct Gap {
+    slot: usize,
+    at: usize,
 }
 
 // The byte at a place, and a comma past the last byte.
 fn symbol_at(field: &[u8], at: usize) -> u8
     ensures { result ≡ symbol field.now at }
 {
-    if at < field.len() {
-        return field[at];
-    }
-    44
+    field.get(at).copied().unwrap_or(b',')
 }
 
 // The link in a slot, and 0 past the last slot.
 fn link_at(links: &[u16], slot: usize) -> usize
     ensures { result ≡ get_or links.now slot 0 }
 {
-    if slot < links.len() {
-        return links[slot] as usize;
-    }
-    0
+    links.get(slot).copied().unwrap_or(0) as usize
 }
 
-// The end and the head of the name that begins at a place.
+// The end and the head of the name that begins at a place. One walk for both: to find the comma first would read a name twice.
 fn name_at(field: &[u8], heads: usize, from: usize) -> Name
     requires { (length field.now ≤ 32768) × (from ≤ length field.now) × (heads ≤ 4096) × (before field.now from ≡ []) }
     ensures { Named field.now heads from result }
@@ -56,7 +49,7 @@ fn name_at(field: &[u8], heads: usize, from: usize) -> Name
     let mut sum = 0;
     loop {
         let byte = symbol_at(field, at);
-        if byte == 44 {
+        if byte == b',' {
             let head = sum * heads / 65536;
             return Name { end: at, head };
         }
@@ -65,22 +58,25 @@ fn name_at(field: &[u8], heads: usize, from: usize) -> Name
     }
 }
 
-// Looks for the name that begins at a place, from a head of the tree on.
-fn seek(field: &[u8], links: &[u16], heads: usize, head: usize, from: usize) -> Search
+// Looks for the name that begins at a place, from a head of the tree on: the gap where it is missing, none where it is found.
+fn seek(field: &[u8], links: &[u16], heads: usize, head: usize, from: usize) -> Option<Gap>
     requires { (length field.now ≤ 32768) × (from ≤ length field.now) × (heads ≤ 4096) × (head < heads) × Planted field.now links.now heads from }
     ensures { Searched field.now links.now heads head from result }
 {
     let first = link_at(links, head);
     if first == 0 {
-        return Search::Missing(head, from);
+        return Some(Gap {
+            slot: head,
+            at: from,
+        });
     }
     let mut place = first - 1;
     let mut at = from;
     loop {
         let byte = symbol_at(field, at);
         if symbol_at(field, place) == byte {
-            if byte == 44 {
-                return Search::Found;
+            if byte == b',' {
+                return None;
             }
             at += 1;
             place += 1;
@@ -88,7 +84,7 @@ fn seek(field: &[u8], links: &[u16], heads: usize, head: usize, from: usize) -> 
             let slot = heads + place;
             let next = link_at(links, slot);
             if next == 0 {
-                return Search::Missing(slot, at);
+                return Some(Gap { slot, at });
             }
             place = next - 1;
         }
@@ -96,25 +92,23 @@ fn seek(field: &[u8], links: &[u16], heads: usize, head: usize, from: usize) -> 
 }
 
 // Puts names into the tree, which has no link yet, as long as there is a slot for the next link.
-// Answers the place up to which the names are in it, 0 where one stands twice.
-fn fill(field: &[u8], links: &mut [u16], heads: usize) -> usize
+// Answers the place up to which the names are in it, none where one stands twice.
+fn fill(field: &[u8], links: &mut [u16], heads: usize) -> Option<usize>
     requires { (length field.now ≤ 32768) × Laid links.old heads × Blank links.old }
     ensures { Filled field.now links.new heads result }
 {
     let mut from = 0;
     while from <= field.len() {
         let name = name_at(field, heads, from);
-        let search = seek(field, links, heads, name.head, from);
-        let Search::Missing(slot, at) = search else {
-            return 0;
-        };
+        let gap = seek(field, links, heads, name.head, from)?;
+        let slot = gap.slot;
         if links.len() <= slot {
-            return from;
+            return Some(from);
         }
-        links[slot] = (at + 1) as u16;
+        links[slot] = (gap.at + 1) as u16;
         from = name.end + 1;
     }
-    from
+    Some(from)
 }
 
 // Whether a name from a place on is in the tree of the names before it.
@@ -125,34 +119,30 @@ fn meets(field: &[u8], links: &[u16], heads: usize, limit: usize) -> bool
     let mut from = limit;
     while from <= field.len() {
         let name = name_at(field, heads, from);
-        let search = seek(field, links, heads, name.head, from);
-        let Search::Missing(_, _) = search else {
+        if seek(field, links, heads, name.head, from).is_none() {
             return true;
-        };
+        }
         from = name.end + 1;
     }
     false
 }
 
 // Takes the first block of a field, with links to work in that are all 0.
-// Answers the place where the next block begins, 0 where a name of the block stands twice.
-fn block_with(field: &[u8], links: &mut [u16], heads: usize) -> usize
+// Answers the place where the next block begins, none where a name of the block stands twice.
+fn block_with(field: &[u8], links: &mut [u16], heads: usize) -> Option<usize>
     requires { (length field.now ≤ 32768) × Laid links.old heads × Blank links.old }
     ensures { Parted field.now result }
 {
-    let limit = fill(field, links, heads);
-    if limit == 0 {
-        return 0;
-    }
+    let limit = fill(field, links, heads)?;
     if meets(field, links, heads, limit) {
-        return 0;
+        return None;
     }
-    limit
+    Some(limit)
 }
 
 // The same, with links of its own.
 // A short field gets fewer links, since clearing them takes longer than reading it.
-fn block(field: &[u8]) -> usize
+fn block(field: &[u8]) -> Option<usize>
     requires { length field.now ≤ 32768 }
     ensures { Parted field.now result }
 {
@@ -175,10 +165,9 @@ pub fn repeats(field: &[u8]) -> bool
 {
     let mut base = 0;
     while base <= field.len() {
-        let limit = block(&field[base..]);
-        if limit == 0 {
+        let Some(limit) = block(&field[base..]) else {
             return true;
-        }
+        };
         base += limit;
     }
     false

@@ -42,11 +42,9 @@ fn write_held(out: &mut [u8], at: usize, ledger: &[u64], c: Counts, user: usize)
     let holder = ledgers::person(ledger, user);
     let held = holder.roles;
     let mut to = at;
-    let mut role = 0;
-    while role < c.roles {
+    for role in 0..c.roles {
         let holds = held.has(role);
         to = write_has(out, to, ledger, c, user, role, holds);
-        role += 1;
     }
     to
 }
@@ -110,10 +108,8 @@ pub fn write_block(out: &mut [u8], at: usize, ledger: &[u64], c: Counts, block: 
 {
     let size = block_size(c, block);
     let mut to = at;
-    let mut place = 0;
-    while place < size {
+    for place in 0..size {
         to = write_element(out, to, ledger, c, block, place);
-        place += 1;
     }
     to
 }

@@ -34,3 +34,13 @@ module _ {line : List ℕ} {a : ℕ} (first : Sought line 0 9 a) where
         more_fields here =
             let left = split_piece 9 (drop (e + 1) line) in
             (left.0, left.1, (passed_next 9 line _ (d + 1) e three fourth here).pieces ∙ ap (λ (l : List (List ℕ)). part line 0 a ∷ part line (a + 1) b ∷ part line (b + 1) d ∷ part line (d + 1) e ∷ l) left.2)
+
+        module _ (yet : e ≡ length line → ⊥) {f : ℕ} (fifth : Sought line (e + 1) 9 f) where
+          four : Passed 9 line (part line 0 a ∷ part line (a + 1) b ∷ part line (b + 1) d ∷ part line (d + 1) e ∷ []) (e + 1)
+          four = passed_next 9 line _ (d + 1) e three fourth (omega (arith, fourth.within, yet))
+
+          pub five_fields_lem : length line ≤ f → split 9 line ≡ part line 0 a ∷ part line (a + 1) b ∷ part line (b + 1) d ∷ part line (d + 1) e ∷ part line (e + 1) f ∷ []
+          five_fields_lem last = passed_last 9 line _ (e + 1) f four fifth (omega (arith, fifth.within, last))
+
+          pub beyond_five : f < length line → split 9 line ≡ part line 0 a ∷ part line (a + 1) b ∷ part line (b + 1) d ∷ part line (d + 1) e ∷ part line (e + 1) f ∷ split 9 (drop (f + 1) line)
+          beyond_five here = (passed_next 9 line _ (e + 1) f four fifth here).pieces

@@ -1,13 +1,12 @@
 -- Names and sets of names against a table of declared names.
-use Rattle.std.specs.Prelude.{ℕ, Bool, cond, not, ◌&&◌, List, [], ◌∷◌, ltb, length}
+use Rattle.std.specs.Prelude.{ℕ, Bool, cond, not, ◌&&◌, List, [], ◌∷◌, Result, Ok, Err, ltb, length}
 use Rattle.roles.specs.declared.RoleSet.{RoleSet}
 use Rattle.roles.specs.Sets.{empty_set, with_of}
 use Rattle.tables.specs.declared.Name.{Name}
 use Rattle.text.specs.Forms.{every, is_name, is_set, names_of}
 use Rattle.tables.specs.Names.{packed, place_of}
 use Rattle.text.specs.Pieces.{repeated}
-use Rattle.fields.specs.declared.NameRead.{NameRead}
-use Rattle.fields.specs.declared.SetRead.{SetRead}
+use Rattle.walking.specs.declared.Fault.{Fault}
 
 -- where a name stands in a table, the number of names where it is not declared
 unfoldable pub placed : List Name → List ℕ → ℕ
@@ -29,30 +28,35 @@ roles_from names roles (name ∷ rest) = roles_from names (with_of roles (placed
 unfoldable pub roles_of : List Name → List ℕ → RoleSet
 roles_of names field = roles_from names empty_set (names_of field)
 
--- 2 for what is malformed, 1 for what is well formed and undeclared, 0 for what is read
-unfoldable pub fault_of : (formed declared : Bool) → ℕ
-fault_of formed declared = cond formed (cond declared 0 1) 2
+-- what a field is read as: malformed, then undeclared, and else its value
+unfoldable pub field_read : {A : Type 0} (formed declared : Bool) → A → Result A Fault
+field_read formed declared value = cond formed (cond declared (Ok value) (Err Fault.Undeclared)) (Err Fault.Malformed)
 
--- a name field read against a table
-unfoldable pub name_read : List Name → List ℕ → NameRead
-name_read names field =
-    record { fault = fault_of (is_name field) (is_declared names field); place = placed names field }
+-- a name field read against a table: the name's place
+unfoldable pub name_read : List Name → List ℕ → Result ℕ Fault
+name_read names field = field_read (is_name field) (is_declared names field) (placed names field)
 
--- a set field read against a table
-unfoldable pub set_read : List Name → List ℕ → SetRead
-set_read names field =
-    let formed = is_set field in
-    let declared = all_declared names field in
-    record { fault = fault_of formed declared; roles = cond (formed && declared) (roles_of names field) empty_set }
+-- a set field read against a table: its roles
+unfoldable pub set_read : List Name → List ℕ → Result RoleSet Fault
+set_read names field = field_read (is_set field) (all_declared names field) (roles_of names field)
+
+-- the worse of two faults: malformed where one of them is, and else the first
+unfoldable pub worse : Fault → Fault → Fault
+worse first Fault.Malformed = Fault.Malformed
+worse first Fault.AboveLimit = first
+worse first Fault.Undeclared = first
+
+-- what two fields are read as: both values, or the worse fault
+unfoldable pub both_read : {A B : Type 0} → Result A Fault → Result B Fault → Result (A × B) Fault
+both_read (Ok a) (Ok b) = Ok (a, b)
+both_read (Ok a) (Err fault) = Err fault
+both_read (Err fault) (Ok b) = Err fault
+both_read (Err first) (Err second) = Err (worse first second)
 
 -- names that make a set: each is a name, and none stands twice
 unfoldable pub are_set : List (List ℕ) → Bool
 are_set names = every is_name names && not (repeated names)
 
--- a malformed set field
-unfoldable pub malformed_set : SetRead
-malformed_set = record { fault = 2; roles = empty_set }
-
--- a set field with an undeclared name
-unfoldable pub undeclared_set : List ℕ → SetRead
-undeclared_set field = record { fault = cond (is_set field) 1 2; roles = empty_set }
+-- the fault of a set field, one of whose names has a fault
+unfoldable pub set_fault : (field : List ℕ) → Fault → Fault
+set_fault field fault = cond (is_set field) fault Fault.Malformed

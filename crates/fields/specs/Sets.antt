@@ -1,8 +1,8 @@
 -- A set field read name by name: the roles so far tell a repeat among declared names.
-use Rattle.std.specs.Prelude.{ℕ, ◌≤◌, ◌<◌, Bool, true, false, ◌&&◌, ◌||◌, ◌≡◌, refl, eqb, length, take, drop}
+use Rattle.std.specs.Prelude.{ℕ, ◌≤◌, ◌<◌, Bool, true, false, ◌&&◌, ◌||◌, ◌⊎◌, Ok, Err, ◌≡◌, refl, eqb, length, take, drop}
 use Rattle.std.proofs.Math.Bool.{cond, not, and-eq-true_iff, and-false, or-false}
 use Rattle.std.proofs.lemmas.Bool.{false≢true}
-use Rattle.std.proofs.Common.{true≢false, ◌∙◌, subst, eq-eqb, ne_eqb, ltb-true, arith}
+use Rattle.std.proofs.Common.{inl, inr, true≢false, ◌∙◌, subst, eq-eqb, ne_eqb, ltb-true, arith}
 use mathlib.Core.List.{List, [], ◌∷◌, ◌++◌, append_assoc}
 use Rattle.std.proofs.Math.Path.{sym, ap, ap₂}
 use Rattle.roles.specs.declared.RoleSet.{RoleSet}
@@ -15,7 +15,9 @@ use Rattle.tables.specs.NameLaws.{packed_one_to_one, place_one_to_one}
 use Rattle.text.specs.Pieces.{split, same_bytes, among, repeated, Sought}
 use Rattle.text.specs.PieceLaws.{same_equal, equal_same, sought_start}
 use Rattle.text.specs.Repeats.{still_single, now_repeated, repeated_start}
-use Rattle.fields.specs.Fields.{placed, is_declared, all_declared, roles_from, roles_of, fault_of, are_set, malformed_set, undeclared_set, set_read}
+use Rattle.walking.specs.declared.Fault.{Fault}
+use Rattle.fields.specs.Fields.{placed, is_declared, all_declared, roles_from, roles_of, field_read, are_set, name_read, set_fault, set_read}
+use Rattle.fields.specs.FieldLaws.{name_faulty}
 
 -- ---- a name stands twice exactly where its role is in the set already
 
@@ -87,42 +89,47 @@ module _ (names : List Name) (field : List ℕ) (plain : same_bytes field (bytes
   unfolding names_of
   plain_names = rw plain
 
-  pub set_malformed : is_set field ≡ false → malformed_set ≡ set_read names field
-  unfolding set_read fault_of malformed_set
-  set_malformed bad = λ i. record {
-    fault = sym (ap (λ (f : Bool). cond f (cond (all_declared names field) 0 1) 2) bad) i;
-    roles = sym (ap (λ (f : Bool). cond (f && all_declared names field) (roles_of names field) empty_set) bad) i;
-  }
+  pub set_malformed : is_set field ≡ false → Err Fault.Malformed ≡ set_read names field
+  unfolding set_read field_read
+  set_malformed bad = rw bad
 
-  pub set_undeclared : all_declared names field ≡ false → undeclared_set field ≡ set_read names field
-  unfolding set_read fault_of undeclared_set
-  set_undeclared bad = λ i. record {
-    fault = sym (ap (λ (d : Bool). cond (is_set field) (cond d 0 1) 2) bad) i;
-    roles = sym (ap (λ (b : Bool). cond b (roles_of names field) empty_set) (ap (λ (d : Bool). is_set field && d) bad ∙ and-false (is_set field))) i;
-  }
+  pub set_undeclared : all_declared names field ≡ false → Err (set_fault field Fault.Undeclared) ≡ set_read names field
+  unfolding set_read field_read set_fault
+  set_undeclared bad = go (is_set field) (all_declared names field) bad
+    where
+      go : (f d : Bool) → d ≡ false → Err (cond f Fault.Undeclared Fault.Malformed) ≡ field_read f d (roles_of names field)
+      go true true e = absurd (true≢false e)
+      go true false e = refl
+      go false d e = refl
 
-  set_good : (roles : RoleSet) → is_set field ≡ true → all_declared names field ≡ true → roles ≡ roles_of names field → record { fault = 0; roles = roles } ≡ set_read names field
-  unfolding set_read fault_of
-  set_good roles formed known are = λ i. record {
-    fault = sym (ap₂ (λ (f d : Bool). cond f (cond d 0 1) 2) formed known) i;
-    roles = (are ∙ sym (ap₂ (λ (f d : Bool). cond (f && d) (roles_of names field) empty_set) formed known)) i;
-  }
+  set_good : (roles : RoleSet) → is_set field ≡ true → all_declared names field ≡ true → roles ≡ roles_of names field → Ok roles ≡ set_read names field
+  unfolding set_read field_read
+  set_good roles formed known are = rw (formed, known) (ap Ok are)
 
   module _ (few : length names ≤ 128) {at : ℕ} {roles : RoleSet} (walked : Walked names field at roles) (p : List ℕ) (rest : List (List ℕ)) (cut : split 44 (drop at field) ≡ p ∷ rest) where
     all_names : names_of field ≡ walked.done ++ (p ∷ rest)
     all_names = plain_names ∙ walked.pieces ∙ ap (λ (ps : List (List ℕ)). walked.done ++ ps) cut
 
-    pub walk_malformed : is_name p ≡ false → malformed_set ≡ set_read names field
+    malformed : is_name p ≡ false → is_set field ≡ false
     unfolding is_set every
-    walk_malformed bad =
-        set_malformed (ap (λ (b : Bool). b && not (repeated (names_of field)))
-        (ap (every is_name) all_names ∙ every_more is_name walked.done (p ∷ rest) ∙ ap (λ (b : Bool). every is_name walked.done && (b && every is_name rest)) bad ∙ and-false (every is_name walked.done)))
+    malformed bad =
+        ap (λ (b : Bool). b && not (repeated (names_of field)))
+        (ap (every is_name) all_names ∙ every_more is_name walked.done (p ∷ rest) ∙ ap (λ (b : Bool). every is_name walked.done && (b && every is_name rest)) bad ∙ and-false (every is_name walked.done))
 
-    pub walk_undeclared : is_declared names p ≡ false → undeclared_set field ≡ set_read names field
+    walk_undeclared : is_declared names p ≡ false → Err (set_fault field Fault.Undeclared) ≡ set_read names field
     unfolding all_declared every
     walk_undeclared bad =
         set_undeclared (ap (every (is_declared names)) all_names ∙ every_more (is_declared names) walked.done (p ∷ rest)
         ∙ ap (λ (b : Bool). every (is_declared names) walked.done && (b && every (is_declared names) rest)) bad ∙ and-false (every (is_declared names) walked.done))
+
+    -- a name with a fault
+    pub walk_faulty : {fault : Fault} → Err fault ≡ name_read names p → Err (set_fault field fault) ≡ set_read names field
+    unfolding set_fault
+    walk_faulty {fault} is = go (name_faulty names p is)
+      where
+        go : (is_name p ≡ false) ⊎ ((fault ≡ Fault.Undeclared) × (is_declared names p ≡ false)) → Err (set_fault field fault) ≡ set_read names field
+        go (inl form) = rw (malformed form) (set_malformed (malformed form))
+        go (inr (same, unknown)) = rw same (walk_undeclared unknown)
 
     module _ (form : is_name p ≡ true) (known : is_declared names p ≡ true) where
       stands : has_role roles (placed names p) ≡ among p walked.done
@@ -130,7 +137,7 @@ module _ (names : List Name) (field : List ℕ) (plain : same_bytes field (bytes
           ap (λ (r : RoleSet). has_role r (placed names p)) walked.are ∙ role_among names few p form known empty_set walked.done walked.formed walked.known
           ∙ ap (λ (b : Bool). b || among p walked.done) (has_empty (placed names p))
 
-      pub walk_repeated : has_role roles (placed names p) ≡ true → malformed_set ≡ set_read names field
+      pub walk_repeated : has_role roles (placed names p) ≡ true → Err Fault.Malformed ≡ set_read names field
       unfolding is_set
       walk_repeated old =
           set_malformed (ap (λ (b : Bool). every is_name (names_of field) && not b) (ap repeated all_names ∙ now_repeated walked.done p rest (sym stands ∙ old)) ∙ and-false (every is_name (names_of field)))
@@ -161,21 +168,17 @@ module _ (names : List Name) (field : List ℕ) (plain : same_bytes field (bytes
           are = are_more;
         }
 
-        pub walk_last : rest ≡ [] → record { fault = 0; roles = with_of roles (placed names p) } ≡ set_read names field
+        pub walk_last : rest ≡ [] → Ok (with_of roles (placed names p)) ≡ set_read names field
         unfolding is_set all_declared roles_of
         walk_last none =
             let all = all_names ∙ ap (λ (r : List (List ℕ)). walked.done ++ (p ∷ r)) none in
             set_good (with_of roles (placed names p)) (ap₂ (λ (a b : Bool). a && not b) (ap (every is_name) all ∙ formed_more) (ap repeated all ∙ single_more))
             (ap (every (is_declared names)) all ∙ known_more) (are_more ∙ sym (ap (roles_from names empty_set) all))
 
--- a field of names that are all well formed is a set where none stands twice
-pub undeclared-malformed : (field : List ℕ) → same_bytes field (bytes "-") ≡ false → are_set (split 44 field) ≡ false → malformed_set ≡ undeclared_set field
-unfolding malformed_set undeclared_set is_set are_set
-undeclared-malformed field plain bad = rw (plain_names [] field plain, bad)
-
-pub undeclared_set_lem : (field : List ℕ) → same_bytes field (bytes "-") ≡ false → are_set (split 44 field) ≡ true → record { fault = 1; roles = empty_set } ≡ undeclared_set field
-unfolding undeclared_set is_set are_set
-undeclared_set_lem field plain good = rw (plain_names [] field plain, good)
+-- a field of names is a set where they make one
+pub set_form : (field : List ℕ) → same_bytes field (bytes "-") ≡ false → is_set field ≡ are_set (split 44 field)
+unfolding is_set are_set
+set_form field plain = rw (plain_names [] field plain)
 
 -- names that make no set make none with more names after them
 start_malformed : (some more : List (List ℕ)) → are_set some ≡ false → are_set (some ++ more) ≡ false
@@ -193,6 +196,6 @@ start_fails field from cut sought bad =
     ap are_set start.1 ∙ start_malformed (split 44 (take cut field)) start.0 bad
 
 -- `-` is the empty set
-pub empty_set_lem : (names : List Name) (field : List ℕ) → same_bytes field (bytes "-") ≡ true → record { fault = 0; roles = empty_set } ≡ set_read names field
-unfolding set_read fault_of is_set all_declared roles_of names_of every repeated roles_from
+pub empty_set_lem : (names : List Name) (field : List ℕ) → same_bytes field (bytes "-") ≡ true → Ok empty_set ≡ set_read names field
+unfolding set_read field_read is_set all_declared roles_of names_of every repeated roles_from
 empty_set_lem names field dash = rw dash

@@ -1,48 +1,47 @@
 // One field of a line: a name or a set of names against the names above, and what is wrong with it.
 #![tactic(auto)]
 
-ghost use Rattle.std.specs.Prelude.{◌≡◌, ◌*◌, ◌≤◌, max, length, true, false};
+ghost use Rattle.std.specs.Prelude.{◌≡◌, ◌*◌, ◌≤◌, length, true, false};
 ghost use Rattle.text.specs.Forms.{bytes, every, is_name};
 ghost use Rattle.tables.specs.Names.{rows};
 ghost use Rattle.text.specs.Pieces.{split, same_bytes};
-ghost use Rattle.fields.specs.Fields.{name_read, set_read, are_set, malformed_set, undeclared_set};
+ghost use Rattle.fields.specs.Fields.{worse, both_read, name_read, set_read, are_set, set_fault};
 
 use roles::RoleSet;
+use walking::{Fault, pass};
 
-// A name field: the fault, 2 malformed, 1 undeclared, 0 none, and the name's place.
-#[derive(Clone, Copy)]
-pub struct NameRead {
-    pub fault: u8,
-    pub place: usize,
-}
-
-// A set field: the fault as for a name, and the roles.
-#[derive(Clone, Copy)]
-pub struct SetRead {
-    pub fault: u8,
-    pub roles: RoleSet,
-}
-
-// The worse of two faults.
-pub fn worse(a: u8, b: u8) -> u8
-    ensures { result ≡ max a b }
+// The worse of two faults: malformed where one of them is, and else the first.
+#[tactic(auto, unfolding(crate::specs::Fields::worse))]
+fn worse(first: Fault, second: Fault) -> Fault
+    ensures { result ≡ worse first second }
 {
-    if a < b { b } else { a }
+    match second {
+        Fault::Malformed => Fault::Malformed,
+        _ => first,
+    }
 }
 
-// A name field read against the first `count` names of a table.
-pub fn read_name(field: &[u8], table: &[u64], count: usize) -> NameRead
+// What two fields are read as: both values, or the worse fault.
+#[tactic(auto, unfolding(crate::specs::Fields::both_read))]
+pub fn both<A: Copy, B: Copy>(a: Result<A, Fault>, b: Result<B, Fault>) -> Result<(A, B), Fault>
+    ensures { result ≡ both_read a b }
+{
+    match (a, b) {
+        (Ok(a), Ok(b)) => Ok((a, b)),
+        (Ok(_), Err(fault)) => Err(fault),
+        (Err(fault), Ok(_)) => Err(fault),
+        (Err(first), Err(second)) => Err(worse(first, second)),
+    }
+}
+
+// A name field read against the first `count` names of a table: the name's place.
+#[tactic(auto, using(crate::specs::FieldLaws::found_read), unfolding(crate::specs::Fields::name_read, crate::specs::Fields::field_read))]
+pub fn read_name(field: &[u8], table: &[u64], count: usize) -> Result<usize, Fault>
     requires { 4 * count ≤ length table.now }
     ensures { result ≡ name_read (rows count table.now) field.now }
 {
-    let place = tables::find(table, count, tables::pack(field));
-    if !text::is_name(field) {
-        return NameRead { fault: 2, place };
-    }
-    if place < count {
-        return NameRead { fault: 0, place };
-    }
-    NameRead { fault: 1, place }
+    pass(text::is_name(field), Fault::Malformed)?;
+    tables::find(table, count, tables::pack(field)).ok_or(Fault::Undeclared)
 }
 
 // Whether every piece of a field between commas is a name.
@@ -62,26 +61,14 @@ fn all_names(field: &[u8]) -> bool
     }
 }
 
-// What a malformed set field gives.
-fn malformed_set() -> SetRead
-    ensures { result ≡ malformed_set }
-{
-    SetRead {
-        fault: 2,
-        roles: RoleSet::empty(),
-    }
-}
-
 // Whether the names of a field make a set: each has the form of a name, and none stands twice.
 // Two functions ask it: it so stays apart when compiled, and the large table that it works in is in no frame but its own.
+#[tactic(auto, unfolding(crate::specs::Fields::are_set))]
 fn are_set(field: &[u8]) -> bool
     requires { length field.now ≤ 32768 }
     ensures { result ≡ are_set (split 44 field.now) }
 {
-    if !all_names(field) {
-        return false;
-    }
-    !distinct::repeats(field)
+    all_names(field) && !distinct::repeats(field)
 }
 
 // Whether the first names of a field, up to a comma past 1024 bytes, make no set; then all its names make none.
@@ -96,50 +83,41 @@ fn fails_early(field: &[u8]) -> bool
     !are_set(&field[..cut])
 }
 
-// A set field with an undeclared name: malformed all the same where a name has no form or stands twice.
+// The fault of a set field, one of whose names has a fault: malformed all the same where a name has no form or stands twice.
 // A fault near the start is found without a look at the rest.
-fn read_undeclared(field: &[u8]) -> SetRead
+#[tactic(auto, using(crate::specs::Sets::set_form), unfolding(crate::specs::Fields::set_fault))]
+fn set_fault(field: &[u8], fault: Fault) -> Fault
     requires { (length field.now ≤ 32768) × (same_bytes field.now (bytes "-") ≡ false) }
-    ensures { result ≡ undeclared_set field.now }
+    ensures { result ≡ set_fault field.now fault }
 {
-    if fails_early(field) {
-        return malformed_set();
+    if fault == Fault::Malformed || fails_early(field) || !are_set(field) {
+        return Fault::Malformed;
     }
-    if !are_set(field) {
-        return malformed_set();
-    }
-    SetRead {
-        fault: 1,
-        roles: RoleSet::empty(),
-    }
+    fault
 }
 
-// A set field read against the first `count` role names of a table.
-pub fn read_set(field: &[u8], table: &[u64], count: usize) -> SetRead
+// A set field read against the first `count` role names of a table: the roles.
+pub fn read_set(field: &[u8], table: &[u64], count: usize) -> Result<RoleSet, Fault>
     requires { (length field.now ≤ 32768) × (4 * count ≤ length table.now) × (count ≤ 128) }
     ensures { result ≡ set_read (rows count table.now) field.now }
 {
     let mut roles = RoleSet::empty();
     if text::same(field, b"-") {
-        return SetRead { fault: 0, roles };
+        return Ok(roles);
     }
     let mut at = 0;
     loop {
         let end = text::seek(field, at, b',');
-        let name = read_name(&field[at..end], table, count);
-        if name.fault == 1 {
-            return read_undeclared(field);
-        }
-        if name.fault == 2 {
-            return malformed_set();
-        }
-        let place = name.place;
+        let place = match read_name(&field[at..end], table, count) {
+            Ok(place) => place,
+            Err(fault) => return Err(set_fault(field, fault)),
+        };
         if roles.has(place) {
-            return malformed_set();
+            return Err(Fault::Malformed);
         }
         roles = roles.with(place);
         if end == field.len() {
-            return SetRead { fault: 0, roles };
+            return Ok(roles);
         }
         at = end + 1;
     }

@@ -3,16 +3,17 @@
 #![tactic(auto)]
 
 ghost use Rattle.std.specs.Prelude.{◌≤◌};
+ghost use Rattle.io.specs.Counts.{IsPrefixLen};
 ghost use Rattle.std.specs.Io.{ReadsAtMost};
 
 use commands::{merge_of, spell_of, sum_of};
 use files::argument;
 use program::line_of;
+use reporting::Report;
 use std::env::FillError;
 use std::io;
 use std::io::Write;
 use std::rt::Env;
-use text::same;
 
 // Puts an argument into a buffer and prints it with a tab, and answers its length.
 fn word(rt: &HostRuntime, place: usize, buffer: &mut [u8]) -> io::Result<usize>
@@ -24,40 +25,29 @@ fn word(rt: &HostRuntime, place: usize, buffer: &mut [u8]) -> io::Result<usize>
     Ok(length)
 }
 
-// Runs a verb on the files of these names.
-fn run_verb(
+// Makes the text and the line of a verb for the files of these names. The line of `check` has no text beside it.
+fn report_of(
     rt: &HostRuntime,
     verb: &[u8],
     one: &[u8],
     two: &[u8],
     three: &[u8],
     four: &[u8],
-) -> io::Result<()> {
-    let mut out = [0u8; 32768];
-    let mut line = [0u8; 192];
-    if same(verb, b"check") {
-        let length = line_of(rt, one, two, &mut line);
-        return rt.stdout().write_all(&line[..length]);
+    out: &mut [u8],
+    line: &mut [u8],
+) -> Report
+    ensures text { IsPrefixLen result.text out.new }
+    ensures line { IsPrefixLen result.line line.new }
+{
+    match verb {
+        b"check" => Report {
+            text: 0,
+            line: line_of(rt, one, two, line),
+        },
+        b"sum" => sum_of(rt, one, two, three, out, line),
+        b"spell" => spell_of(rt, one, out, line),
+        _ => merge_of(rt, one, two, three, four, out, line),
     }
-    if same(verb, b"sum") {
-        let report = sum_of(rt, one, two, three, &mut out, &mut line);
-        let text_length = report.text;
-        let line_length = report.line;
-        rt.stdout().write_all(&line[..line_length])?;
-        return rt.stdout().write_all(&out[..text_length]);
-    }
-    if same(verb, b"spell") {
-        let report = spell_of(rt, one, &mut out, &mut line);
-        let text_length = report.text;
-        let line_length = report.line;
-        rt.stdout().write_all(&line[..line_length])?;
-        return rt.stdout().write_all(&out[..text_length]);
-    }
-    let report = merge_of(rt, one, two, three, four, &mut out, &mut line);
-    let text_length = report.text;
-    let line_length = report.line;
-    rt.stdout().write_all(&line[..line_length])?;
-    rt.stdout().write_all(&out[..text_length])
 }
 
 // Runs the case whose last word is the given argument.
@@ -69,19 +59,25 @@ fn run(rt: &HostRuntime, last: usize) -> io::Result<()>
     let mut two = [0u8; 64];
     let mut three = [0u8; 64];
     let mut four = [0u8; 64];
+    let mut out = [0u8; 32768];
+    let mut line = [0u8; 192];
     let verb_length = word(rt, last - 4, &mut verb)?;
     let one_length = word(rt, last - 3, &mut one)?;
     let two_length = word(rt, last - 2, &mut two)?;
     let three_length = word(rt, last - 1, &mut three)?;
     let four_length = word(rt, last, &mut four)?;
-    run_verb(
+    let report = report_of(
         rt,
         &verb[..verb_length],
         &one[..one_length],
         &two[..two_length],
         &three[..three_length],
         &four[..four_length],
-    )
+        &mut out,
+        &mut line,
+    );
+    rt.stdout().write_all(&line[..report.line])?;
+    rt.stdout().write_all(&out[..report.text])
 }
 
 fn main(rt: HostRuntime) -> io::Result<()> {

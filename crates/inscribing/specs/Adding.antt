@@ -1,10 +1,9 @@
 -- A piece of text added from a place of a buffer on, in the room that it takes.
-use Rattle.std.specs.Prelude.{ℕ, ◌+◌, ◌≤◌, ◌<◌, List, [], ◌++◌, ◌≡◌, refl, length, set}
+use Rattle.std.specs.Prelude.{ℕ, ◌+◌, ◌≤◌, ◌<◌, List, [], ◌++◌, ◌≡◌, refl, length}
 use Rattle.std.proofs.Common.{length-append, arith}
 use Rattle.writing.specs.Written.{put}
 use Rattle.writing.proofs.Buffers.{from, back, wrote, written, wrote_none, wrote_more}
-use Rattle.showing.specs.Fields.{field}
-use Rattle.showing.specs.Steps.{Goes, goes_none, goes_both, goes_field}
+use Rattle.showing.specs.Steps.{Goes, goes_none, goes_both}
 use Rattle.spelling.specs.Growth.{Grows, piece_room}
 
 -- The text before a place goes on by a piece, where there is room for it.
@@ -28,15 +27,6 @@ adds_both {one} {two} first second = rw (length-append one two) (goes_both first
 -- a piece that is written into the rest of the buffer
 pub adds_piece : {piece out part : List ℕ} {at n : ℕ} → (n ≡ length piece) × (part ≡ put piece (from at out)) → Adds piece at out (at + n) (back at out part)
 adds_piece ensured = record { wrote = λ text buffer w room. wrote_more w (wrote ensured); few = omega (arith, ensured.0) }
-
--- a field: a tab, and what stands past it
-pub field_size : (text : List ℕ) → length (field text) ≡ length text + 1
-unfolding field
-field_size text = omega arith
-
-pub adds_field : (text : List ℕ) {out part : List ℕ} {at n : ℕ} → (n ≡ length text) × (part ≡ put text (from (at + 1) (set out at 9)))
-    → Adds (field text) at out (at + 1 + n) (back (at + 1) (set out at 9) part)
-adds_field text ensured = rw (field_size text) (goes_field text (omega arith) ensured)
 
 -- where a text has room, so have both its parts
 pub both_room : (at : ℕ) (one two : List ℕ) {size : ℕ} → at + length (one ++ two) ≤ size → at + length one + length two ≤ size

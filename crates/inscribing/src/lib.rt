@@ -17,10 +17,9 @@ use ledgers::USERS;
 use lines::{Counts, Entry};
 use model::Assign;
 use roles::RoleSet;
-use showing::end_line;
+use showing::{end_line, name_field};
 use spelling::write_set;
 use tables::{Name, name_at};
-use writing::names::write_name;
 use writing::pieces::write_bytes;
 
 // Writes bytes from a place on, and answers the place past them.
@@ -29,16 +28,6 @@ fn write_piece(out: &mut [u8], at: usize, part: &[u8]) -> usize
     ensures { Adds part.now at out.old result out.new }
 {
     at + write_bytes(&mut out[at..], part)
-}
-
-// Writes a name's field from a place on, and answers the place past it.
-fn name_field(out: &mut [u8], at: usize, name: Name) -> usize
-    requires { at + length (field (spelled name)) ≤ length out.old }
-    ensures { Adds (field (spelled name)) at out.old result out.new }
-{
-    out[at] = b'\t';
-    let from = at + 1;
-    from + write_name(&mut out[from..], name)
 }
 
 // Writes a set's field from a place on, and answers the place past it.

@@ -1,76 +1,38 @@
--- The first row of a ledger's part that fails: each part's rows and their test, and what each turn of a loop over them adds to the answer.
-use Rattle.std.specs.Prelude.{ℕ, suc, ◌+◌, ◌-◌, ◌≤◌, ◌<◌, Bool, true, false, not, List, ◌≡◌}
-use Rattle.std.proofs.Common.{zero-le, ◌∙◌}
-use Rattle.std.proofs.Math.Path.{sym}
-use Rattle.std.proofs.Math.Nat.{sub-zero}
-use Rattle.std.proofs.Math.Numerals.{add-one}
-use native.Mathlib.Omega.{arith}
-use Rattle.roles.specs.declared.RoleSet.{RoleSet}
-use Rattle.model.specs.declared.Assign.{Assign}
-use Rattle.model.specs.declared.Revoke.{Revoke}
-use Rattle.model.specs.declared.Person.{Person}
+-- The verdict on a part by the tests of its rows, in turn: that of the first row that fails.
+use Rattle.std.specs.Prelude.{ℕ, ◌+◌, ◌<◌, Bool, true, false, not, List, ◌≡◌, length, get_or}
+use Rattle.std.proofs.Common.{ap, ◌∙◌, sym, add-one, arith}
 use Rattle.ledgers.specs.Parts as ledgers
-use Rattle.ledgers.specs.Parts.{row_at, rows_from, rows_in}
-use Rattle.ledgers.specs.Ledger.{people, assign_rules, revoke_rules, goal_sets}
-use Rattle.sheets.specs.Turned.{Turned}
-use Rattle.rules.specs.Tests.{person_passes, assign_passes, revoke_passes, goal_passes}
-use Rattle.steps.specs.First.{first_from, first}
+use Rattle.ledgers.specs.Parts.{row_at, rows_in}
+use Rattle.ledgers.specs.PartLaws.{rows_at, rows_length}
+use Rattle.steps.specs.First.{Earliest, Nowhere, first_some, first_none}
 use Rattle.judging.specs.declared.Part.{Part}
-use Rattle.judging.specs.Verdict.{first_failing}
+use Rattle.judging.specs.Verdict.{TypingVerdict, accepted, unproved, failing_part, first_failing}
 
--- What a row says, where the rows stand, for how many there is room, and the test of one by what a typing says.
-pub record Rows : Type 1 where
-  pub Row : Type 0
-  pub rows : ledgers.Part Row
-  pub room : ℕ
-  pub passes : Turned → Row → Bool
+-- The verdict on a part of so many rows, by what their tests may answer: each passes; or one fails, and each before it passes.
+pub data ByTests (Answers : ℕ → Bool → Type 0) (part : Part) (count : ℕ) : TypingVerdict → Type 0 where
+  none_fails : ((place : ℕ) → place < count → Answers place true) → ByTests Answers part count accepted
+  one_fails : {place : ℕ} → place < count → ((before : ℕ) → before < place → Answers before true) → Answers place false → ByTests Answers part count (unproved part (place + 1))
 
--- The rows of each part.
-abbrev pub rows_of : Part → Rows
-rows_of Part.Holdings = record { Row = Person; rows = people; room = 64; passes = person_passes }
-rows_of Part.Assign = record { Row = Assign; rows = assign_rules; room = 256; passes = assign_passes }
-rows_of Part.Revoke = record { Row = Revoke; rows = revoke_rules; room = 256; passes = revoke_passes }
-rows_of Part.Goal = record { Row = RoleSet; rows = goal_sets; room = 32; passes = goal_passes }
+module _ {Row : Type 0} (rows : ledgers.Part Row) (passes : Row → Bool) (words : List ℕ) where
+  -- the answer of the row at a place
+  tested : {count place : ℕ} {answer : Bool} → place < count → answer ≡ passes (row_at rows words place) → not (passes (get_or (rows_in rows words count) place (row_at rows words 0))) ≡ not answer
+  tested {count} {place} here is = ap (λ (row : Row). not (passes row)) (rows_at rows words count place (row_at rows words 0) here) ∙ ap not (sym is)
 
--- Whether the row at a place passes.
-abbrev pub row_passes : Part → Turned → List ℕ → ℕ → Bool
-row_passes part said words place = (rows_of part).passes said (row_at (rows_of part).rows words place)
-
--- The number, from 1, of the first row that fails; 0 where all pass.
-abbrev pub first_row : Part → Turned → List ℕ → ℕ → ℕ
-first_row part said words count = first_failing ((rows_of part).passes said) (rows_in (rows_of part).rows words count)
-
--- ---- going by places through the rows
-
--- The answer is that of the rows from a place on.
-pub record Looked (part : Part) (said : Turned) (words : List ℕ) (count answer place : ℕ) : Type 0 where
-  pub reached : place ≤ count
-  pub left : answer ≡ first_from (λ row. not ((rows_of part).passes said row)) place (rows_from (rows_of part).rows words place (count - place))
-
--- before the first turn
-pub looked_start : (part : Part) (said : Turned) (words : List ℕ) (count : ℕ) → Looked part said words count (first_row part said words count) 0
-unfolding first_failing first rows_in
-looked_start part said words count = record { reached = zero-le; left = rw sub-zero }
-
-module _ {part : Part} {said : Turned} {words : List ℕ} {count answer place : ℕ} (so_far : Looked part said words count answer place) where
-  -- no row is left
-  pub looked_end : count ≤ place → 0 ≡ answer
-  unfolding first_from rows_from
-  looked_end all =
-      let none : count - place ≡ 0 = omega arith in
-      sym (rw none at so_far.left)
-
-  module _ (here : place < count) {passes : Bool} (is : passes ≡ row_passes part said words place) where
-    -- the row at the place is left, and those after it
-    more : count - place ≡ suc (count - (place + 1))
-    more = omega arith
-
-    -- it fails
-    pub looked_fails : not passes ≡ true → place + 1 ≡ answer
-    unfolding first_from rows_from
-    looked_fails fails = add-one place ∙ sym (rw (more, ← is, fails) at so_far.left)
-
-    -- it passes
-    pub looked_passes : not passes ≡ false → Looked part said words count answer (place + 1)
-    unfolding first_from rows_from
-    looked_passes ok = record { reached = omega arith; left = rw (more, ← is, ok, ← add-one place) at so_far.left }
+  -- Where the answers are those of a test of the rows, the verdict is that of the first row that fails it.
+  pub verdict_by : {Answers : ℕ → Bool → Type 0} {part : Part} {count : ℕ} {verdict : TypingVerdict}
+      → ByTests Answers part count verdict
+      → ((place : ℕ) (answer : Bool) → place < count → Answers place answer → answer ≡ passes (row_at rows words place))
+      → verdict ≡ failing_part part (first_failing passes (rows_in rows words count))
+  unfolding failing_part first_failing
+  verdict_by {part = part} {count = count} (none_fails each) exact =
+      let none : Nowhere (λ (row : Row). not (passes row)) (row_at rows words 0) (rows_in rows words count) = record {
+        fails = λ place inside. let here : place < count = omega (arith, inside, rows_length rows words count) in tested here (exact place true here (each place here));
+      } in
+      sym (ap (failing_part part) ((first_none _ _ _).1 none))
+  verdict_by {part = part} {count = count} (one_fails {place = place} here before bad) exact =
+      let one : Earliest (λ (row : Row). not (passes row)) (row_at rows words 0) (rows_in rows words count) place = record {
+        inside = omega (arith, here, rows_length rows words count);
+        passes = tested here (exact place false here bad);
+        earlier = λ k earlier. let so_far : k < count = omega arith in tested so_far (exact k true so_far (before k earlier));
+      } in
+      rw (add-one place) (sym (ap (failing_part part) ((first_some _ _ _ _).1 one)))

@@ -17,8 +17,7 @@ use Rattle.rules.specs.RuleExact.{Laid, person_exact, assign_exact, revoke_exact
 use Rattle.reading.specs.Policy.{Said, policy_of}
 use Rattle.steps.proofs.PlaceLaws.{at_inside, at_stands, stands_at, at_listed, listed_at}
 use Rattle.judging.specs.declared.Part.{Part}
-use Rattle.judging.specs.declared.TypingVerdict.{TypingVerdict}
-use Rattle.judging.specs.Verdict.{subject_of, first_holding, first_assign, first_revoke, first_goal, failing_part, and_then, rules_said, all_said, judged_rules, judged_typing, rules_verdict, typing_verdict}
+use Rattle.judging.specs.Verdict.{TypingVerdict, accepted, unproved, subject_of, first_holding, first_assign, first_revoke, first_goal, failing_part, and_then, rules_said, all_said, judged_rules, judged_typing, rules_verdict, typing_verdict}
 use Rattle.judging.specs.Failures.{FirstRule, at_assign, at_revoke, FirstFailure, at_holdings, at_rule, at_goal}
 use Rattle.judging.specs.Order.{both_accepted, one_fails, part_accepted, part_fails}
 
@@ -50,19 +49,19 @@ module _ (s : Said) {t : Table} (sized : SizedPolicy (policy_of s)) (laid : Laid
 
   -- ---- accepted
 
-  holdings_accepted : failing_part Part.Holdings (first_holding s.holdings (turned_of t (length s.roles))) ≡ TypingVerdict.Accepted ↔ HoldingsPass (meaning t) s.holdings
+  holdings_accepted : failing_part Part.Holdings (first_holding s.holdings (turned_of t (length s.roles))) ≡ accepted ↔ HoldingsPass (meaning t) s.holdings
   unfolding subject_of first_holding
   holdings_accepted =
       let each = holdings_each (meaning t) s.holdings in
       let part = part_accepted Part.Holdings persons_exact in
       (λ e. each.1 (part.0 e), λ pass. part.1 (each.0 pass))
 
-  goals_accepted : failing_part Part.Goal (first_goal (policy_of s) (turned_of t (length s.roles))) ≡ TypingVerdict.Accepted ↔ ((goal : RoleSet) → Listed goal s.goals → GoalPasses closure (meaning t) goal)
+  goals_accepted : failing_part Part.Goal (first_goal (policy_of s) (turned_of t (length s.roles))) ≡ accepted ↔ ((goal : RoleSet) → Listed goal s.goals → GoalPasses closure (meaning t) goal)
   unfolding subject_of policy_of first_goal
   goals_accepted = part_accepted Part.Goal goals_exact
 
   -- The verdict on the rules is accepted exactly when the rules pass.
-  pub rules_accepted : rules_verdict s t ≡ TypingVerdict.Accepted ↔ RulesPass closure (meaning t) (policy_of s)
+  pub rules_accepted : rules_verdict s t ≡ accepted ↔ RulesPass closure (meaning t) (policy_of s)
   unfolding rules_verdict judged_rules rules_said subject_of policy_of first_assign first_revoke
   rules_accepted =
       let assigns = part_accepted Part.Assign assigns_exact in
@@ -73,7 +72,7 @@ module _ (s : Said) {t : Table} (sized : SizedPolicy (policy_of s)) (laid : Laid
       )
 
   -- The verdict is accepted exactly when the typing is accepted.
-  pub typing_accepted : typing_verdict s t ≡ TypingVerdict.Accepted ↔ Accepted (meaning t) (policy_of s) s.holdings
+  pub typing_accepted : typing_verdict s t ≡ accepted ↔ Accepted (meaning t) (policy_of s) s.holdings
   unfolding typing_verdict judged_typing all_said rules_verdict policy_of subject_of judged_rules rules_said
   typing_accepted =
       let later-parts = both_accepted _ _ in
@@ -83,13 +82,13 @@ module _ (s : Said) {t : Table} (sized : SizedPolicy (policy_of s)) (laid : Laid
           rules = rules_accepted.0 (later-parts.0 (all.0 e).1).0;
           goals = λ {goal} m. goals_accepted.0 (later-parts.0 (all.0 e).1).1 goal m;
         },
-        λ accepted. all.1 (holdings_accepted.1 accepted.holdings, later-parts.1 (rules_accepted.1 accepted.rules, goals_accepted.1 (λ goal m. accepted.goals m))),
+        λ pass. all.1 (holdings_accepted.1 pass.holdings, later-parts.1 (rules_accepted.1 pass.rules, goals_accepted.1 (λ goal m. pass.goals m))),
       )
 
   -- ---- the first failure
 
   -- The verdict on the rules is a failure exactly when that is the first.
-  pub rules_first : (part : Part) (number : ℕ) → rules_verdict s t ≡ TypingVerdict.Fails part number ↔ FirstRule (meaning t) (policy_of s) part number
+  pub rules_first : (part : Part) (number : ℕ) → rules_verdict s t ≡ unproved part number ↔ FirstRule (meaning t) (policy_of s) part number
   unfolding rules_verdict judged_rules rules_said subject_of policy_of first_assign first_revoke
   rules_first part number = (λ e. told ((one_fails assigns revokes part number).0 e), found)
     where
@@ -99,7 +98,7 @@ module _ (s : Said) {t : Table} (sized : SizedPolicy (policy_of s)) (laid : Laid
       revokes : TypingVerdict
       revokes = failing_part Part.Revoke (first_revoke (policy_of s) (turned_of t (length s.roles)))
 
-      told : (assigns ≡ TypingVerdict.Fails part number) ⊎ ((assigns ≡ TypingVerdict.Accepted) × (revokes ≡ TypingVerdict.Fails part number)) → FirstRule (meaning t) (policy_of s) part number
+      told : (assigns ≡ unproved part number) ⊎ ((assigns ≡ accepted) × (revokes ≡ unproved part number)) → FirstRule (meaning t) (policy_of s) part number
       told (inl e) =
           let (same, bad) = (part_fails Part.Assign assigns_exact part number).0 e in
           subst (λ (p : Part). FirstRule (meaning t) (policy_of s) p number) same (at_assign bad)
@@ -107,13 +106,13 @@ module _ (s : Said) {t : Table} (sized : SizedPolicy (policy_of s)) (laid : Laid
           let (same, bad) = (part_fails Part.Revoke revokes_exact part number).0 e in
           subst (λ (p : Part). FirstRule (meaning t) (policy_of s) p number) same (at_revoke ((part_accepted Part.Assign assigns_exact).0 passed) bad)
 
-      found : {p : Part} {n : ℕ} → FirstRule (meaning t) (policy_of s) p n → and_then assigns revokes ≡ TypingVerdict.Fails p n
+      found : {p : Part} {n : ℕ} → FirstRule (meaning t) (policy_of s) p n → and_then assigns revokes ≡ unproved p n
       found {n = n} (at_assign bad) = (one_fails assigns revokes Part.Assign n).1 (inl ((part_fails Part.Assign assigns_exact Part.Assign n).1 (refl, bad)))
       found {n = n} (at_revoke pass bad) =
           (one_fails assigns revokes Part.Revoke n).1 (inr ((part_accepted Part.Assign assigns_exact).1 pass, (part_fails Part.Revoke revokes_exact Part.Revoke n).1 (refl, bad)))
 
   -- The verdict is a failure exactly when that is the first in document 01's order.
-  pub unproved_first : (part : Part) (number : ℕ) → typing_verdict s t ≡ TypingVerdict.Fails part number ↔ FirstFailure (meaning t) (policy_of s) s.holdings part number
+  pub unproved_first : (part : Part) (number : ℕ) → typing_verdict s t ≡ unproved part number ↔ FirstFailure (meaning t) (policy_of s) s.holdings part number
   unfolding typing_verdict judged_typing all_said rules_verdict subject_of policy_of first_holding first_goal judged_rules rules_said
   unproved_first part number = (λ e. told ((one_fails users after_users part number).0 e), found)
     where
@@ -129,19 +128,19 @@ module _ (s : Said) {t : Table} (sized : SizedPolicy (policy_of s)) (laid : Laid
       after_users : TypingVerdict
       after_users = and_then rules goals
 
-      later_part : HoldingsPass (meaning t) s.holdings → (rules ≡ TypingVerdict.Fails part number) ⊎ ((rules ≡ TypingVerdict.Accepted) × (goals ≡ TypingVerdict.Fails part number)) → FirstFailure (meaning t) (policy_of s) s.holdings part number
+      later_part : HoldingsPass (meaning t) s.holdings → (rules ≡ unproved part number) ⊎ ((rules ≡ accepted) × (goals ≡ unproved part number)) → FirstFailure (meaning t) (policy_of s) s.holdings part number
       later_part pass (inl e) = at_rule pass ((rules_first part number).0 e)
       later_part pass (inr (passed, e)) =
           let (same, bad) = (part_fails Part.Goal goals_exact part number).0 e in
           subst (λ (p : Part). FirstFailure (meaning t) (policy_of s) s.holdings p number) same (at_goal pass (rules_accepted.0 passed) bad)
 
-      told : (users ≡ TypingVerdict.Fails part number) ⊎ ((users ≡ TypingVerdict.Accepted) × (after_users ≡ TypingVerdict.Fails part number)) → FirstFailure (meaning t) (policy_of s) s.holdings part number
+      told : (users ≡ unproved part number) ⊎ ((users ≡ accepted) × (after_users ≡ unproved part number)) → FirstFailure (meaning t) (policy_of s) s.holdings part number
       told (inl e) =
           let (same, bad) = (part_fails Part.Holdings persons_exact part number).0 e in
           subst (λ (p : Part). FirstFailure (meaning t) (policy_of s) s.holdings p number) same (at_holdings bad)
       told (inr (passed, e)) = later_part (holdings_accepted.0 passed) ((one_fails rules goals part number).0 e)
 
-      found : {p : Part} {n : ℕ} → FirstFailure (meaning t) (policy_of s) s.holdings p n → and_then users after_users ≡ TypingVerdict.Fails p n
+      found : {p : Part} {n : ℕ} → FirstFailure (meaning t) (policy_of s) s.holdings p n → and_then users after_users ≡ unproved p n
       found {n = n} (at_holdings bad) = (one_fails users after_users Part.Holdings n).1 (inl ((part_fails Part.Holdings persons_exact Part.Holdings n).1 (refl, bad)))
       found {p = p} {n = n} (at_rule pass bad) = (one_fails users after_users p n).1 (inr (holdings_accepted.1 pass, (one_fails rules goals p n).1 (inl ((rules_first p n).1 bad))))
       found {n = n} (at_goal pass passed bad) =

@@ -1,5 +1,5 @@
 -- The verdict on a typing, part by part in document 01's order, with the number of the first that fails; and pinned.
-use Rattle.std.specs.Prelude.{ℕ, zero, suc, ◌+◌, min, Bool, not, List, length}
+use Rattle.std.specs.Prelude.{ℕ, zero, suc, ◌+◌, min, Bool, not, List, length, Result, Ok, Err}
 use Rattle.roles.specs.Sets.{size_of}
 use Rattle.model.specs.declared.Typing.{Typing as Table}
 use Rattle.model.specs.Policy.{Policy, State}
@@ -10,7 +10,7 @@ use Rattle.rules.specs.Tests.{person_passes, assign_passes, revoke_passes, goal_
 use Rattle.reading.specs.Policy.{Said, policy_of}
 use Rattle.steps.specs.First.{first}
 use Rattle.judging.specs.declared.Part.{Part}
-use Rattle.judging.specs.declared.TypingVerdict.{TypingVerdict}
+use Rattle.judging.specs.declared.Failure.{Failure}
 
 -- ---- the first that fails
 
@@ -44,15 +44,25 @@ first_revoke policy said = first_failing (revoke_passes said) policy.revokes
 unfoldable pub first_goal : Policy → Turned → ℕ
 first_goal policy said = first_failing (goal_passes said) policy.goals
 
+-- A verdict: accepted, or the first failure.
+abbrev pub TypingVerdict : Type 0
+TypingVerdict = Result (Unit {0}) Failure
+
+abbrev pub accepted : TypingVerdict
+accepted = Ok tt
+
+abbrev pub unproved : Part → ℕ → TypingVerdict
+unproved part number = Err (record { part = part; number = number })
+
 -- The verdict on one part, by the number of its first failure.
 unfoldable pub failing_part : Part → ℕ → TypingVerdict
-failing_part part zero = TypingVerdict.Accepted
-failing_part part (suc number) = TypingVerdict.Fails part (suc number)
+failing_part part zero = accepted
+failing_part part (suc number) = unproved part (suc number)
 
 -- A verdict, and where it is accepted the next one.
 unfoldable pub and_then : TypingVerdict → TypingVerdict → TypingVerdict
-and_then TypingVerdict.Accepted next = next
-and_then (TypingVerdict.Fails part number) next = TypingVerdict.Fails part number
+and_then (Ok _) next = next
+and_then (Err failure) next = Err failure
 
 -- Assign rules, then revoke rules.
 unfoldable pub rules_said : Policy → Turned → TypingVerdict

@@ -95,11 +95,7 @@ fn store(ledger: &mut [u64], at: usize, row: &[u64])
     requires { at + length row.now ≤ length ledger.old }
     ensures { ledger.new ≡ sets ledger.old at row.now }
 {
-    let mut i = 0;
-    while i < row.len() {
-        ledger[at + i] = row[i];
-        i += 1;
-    }
+    ledger[at..at + row.len()].copy_from_slice(row);
 }
 
 // Stores a name.

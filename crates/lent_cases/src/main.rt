@@ -4,16 +4,13 @@
 #![tactic(auto)]
 
 ghost use Rattle.std.specs.Prelude.{◌≤◌, ◌<◌};
-ghost use Rattle.io.specs.Counts.{IsPrefixLen};
 
 use files::{argument, load_argument};
 use merging::MergeAnswer;
-use scribing::SpellAnswer;
 use std::env::FillError;
 use std::io;
 use std::io::Write;
 use std::rt::Env;
-use summing::SumAnswer;
 
 // What each byte of the lent buffer is before the call: a full stop, which no text has.
 const FILLING: u8 = b'.';
@@ -31,39 +28,13 @@ fn digit(byte: u8) -> usize
 // The number that a word is in decimal; where it is above the largest buffer, its first digits that are.
 fn number(word: &[u8]) -> usize {
     let mut value = 0;
-    let mut at = 0;
-    while at < word.len() {
+    for byte in word {
         if LARGEST < value {
-            return value;
+            break;
         }
-        value = 10 * value + digit(word[at]);
-        at += 1;
+        value = 10 * value + digit(*byte);
     }
     value
-}
-
-// The number, or where the buffer is shorter, the buffer's length.
-fn within(number: usize, buffer: &[u8]) -> usize
-    ensures { IsPrefixLen result buffer.now }
-{
-    if number < buffer.len() {
-        return number;
-    }
-    buffer.len()
-}
-
-// How many bytes from a place on are still the filling.
-fn kept(out: &[u8], from: usize) -> usize {
-    let mut count = 0;
-    let mut at = from;
-    while at < out.len() {
-        let byte = out[at];
-        at += 1;
-        if byte == FILLING {
-            count += 1;
-        }
-    }
-    count
 }
 
 // Writes a word, and numbers each after a tab.
@@ -77,10 +48,10 @@ fn show(rt: &HostRuntime, word: &[u8], numbers: &[u64]) -> io::Result<()> {
 
 // Writes what the buffer holds: how many bytes behind the text are still the filling, and on the next lines the text.
 fn show_buffer(rt: &HostRuntime, out: &[u8], length: usize) -> io::Result<()> {
-    show(rt, b"", &[kept(out, length) as u64])?;
-    rt.stdout().write_all(b"\n")?;
-    let end = within(length, out);
-    rt.stdout().write_all(&out[..end])
+    let (text, behind) = out.split_at(length.min(out.len()));
+    let kept = behind.iter().filter(|byte| **byte == FILLING).count();
+    println!(rt; "\t{kept}")?;
+    rt.stdout().write_all(text)
 }
 
 // Writes the answer of merge: the joint counts, pinned and length; which of the four judgings, the part and the number; or which
@@ -109,16 +80,24 @@ fn show_merge(
             )?;
             show_buffer(rt, out, length)
         }
-        MergeAnswer::Unproved(which, part, number) => {
+        MergeAnswer::Unproved(which, failure) => {
             show(
                 rt,
                 b"\tUNPROVED",
-                &[which as u64, judging::part_number(part), number as u64],
+                &[
+                    which as u64,
+                    judging::part_number(failure.part),
+                    failure.number as u64,
+                ],
             )?;
             show_buffer(rt, out, 0)
         }
-        MergeAnswer::Refused(text, number, line) => {
-            show(rt, b"\tREFUSED", &[text as u64, number, line as u64])?;
+        MergeAnswer::Refused(text, refusal) => {
+            show(
+                rt,
+                b"\tREFUSED",
+                &[text as u64, refusal.number, refusal.line as u64],
+            )?;
             show_buffer(rt, out, 0)
         }
     }
@@ -133,12 +112,17 @@ fn show_sum(
     out: &mut [u8],
 ) -> io::Result<()> {
     match summing::sum(policy, first, second, out) {
-        SumAnswer::Summed(pinned, length) => {
-            show(rt, b"\tOK", &[pinned as u64, length as u64])?;
-            show_buffer(rt, out, length)
+        Ok(summed) => {
+            show(rt, b"\tOK", &[summed.pinned as u64, summed.length as u64])?;
+            show_buffer(rt, out, summed.length)
         }
-        SumAnswer::Refused(text, number, line) => {
-            show(rt, b"\tREFUSED", &[text as u64, number, line as u64])?;
+        Err(refused) => {
+            let refusal = refused.refusal;
+            show(
+                rt,
+                b"\tREFUSED",
+                &[refused.text as u64, refusal.number, refusal.line as u64],
+            )?;
             show_buffer(rt, out, 0)
         }
     }
@@ -147,12 +131,12 @@ fn show_sum(
 // Writes the answer of spell: the length; or the number and the line. Then what the buffer holds.
 fn show_spelling(rt: &HostRuntime, policy: &[u8], out: &mut [u8]) -> io::Result<()> {
     match scribing::spell(policy, out) {
-        SpellAnswer::Spelled(length) => {
+        Ok(length) => {
             show(rt, b"\tOK", &[length as u64])?;
             show_buffer(rt, out, length)
         }
-        SpellAnswer::Refused(number, line) => {
-            show(rt, b"\tREFUSED", &[number, line as u64])?;
+        Err(refusal) => {
+            show(rt, b"\tREFUSED", &[refusal.number, refusal.line as u64])?;
             show_buffer(rt, out, 0)
         }
     }
@@ -219,14 +203,14 @@ fn run(rt: &HostRuntime, last: usize) -> io::Result<()>
     let kind_length = argument(rt, last - 6, &mut kind);
     let name_length = argument(rt, last - 5, &mut name);
     let size_length = argument(rt, last - 4, &mut size);
-    let room = within(number(&size[..size_length]), &buffer);
-    rt.stdout().write_all(&kind[..kind_length])?;
+    let kind = &kind[..kind_length];
+    let room = number(&size[..size_length]).min(LARGEST);
+    rt.stdout().write_all(kind)?;
     rt.stdout().write_all(b"\t")?;
     show(rt, &name[..name_length], &[room as u64])?;
-    // the three words differ in their second letters
-    match kind[1] {
-        b'e' => run_merge(rt, last, &mut buffer[..room]),
-        b'u' => run_sum(rt, last, &mut buffer[..room]),
+    match kind {
+        b"merge" => run_merge(rt, last, &mut buffer[..room]),
+        b"sum" => run_sum(rt, last, &mut buffer[..room]),
         _ => run_spell(rt, last, &mut buffer[..room]),
     }
 }

@@ -1,147 +1,91 @@
 -- Each kind of line from what a reader finds, its fields, and what a good line passes.
-use Rattle.std.specs.Prelude.{ℕ, ◌<◌, max, Bool, true, false, cond, not, ◌&&◌, List, [], ◌∷◌, ◌≡◌, refl, ltb, eqb, length}
+use Rattle.std.specs.Prelude.{ℕ, ◌<◌, Bool, true, false, cond, not, ◌&&◌, List, [], ◌∷◌, Result, Ok, Err, ◌≡◌, refl, length}
 use Rattle.std.proofs.Math.Bool.{and-eq-true_iff}
 use Rattle.std.proofs.Common.{true≢false, sym, ap, ap₂, subst, ◌∙◌, ltb-true, arith}
-use Rattle.model.specs.Policy.{assigning}
 use Rattle.tables.specs.declared.Name.{Name}
+use Rattle.roles.specs.declared.RoleSet.{RoleSet}
 use Rattle.text.specs.Forms.{bytes, is_name, is_set}
 use Rattle.text.specs.Pieces.{split, same_bytes}
 use Rattle.text.specs.PieceLaws.{split_piece}
-use Rattle.walking.specs.Turns.{in_turn}
-use Rattle.walking.specs.TurnLaws.{turn_good}
-use Rattle.fields.specs.declared.NameRead.{NameRead}
-use Rattle.fields.specs.declared.SetRead.{SetRead}
+use Rattle.walking.specs.declared.Fault.{Fault}
 use Rattle.lines.specs.declared.Counts.{Counts}
 use Rattle.lines.specs.declared.Entry.{Entry}
-use Rattle.lines.specs.declared.PolicyLine.{PolicyLine}
-use Rattle.fields.specs.Fields.{placed, is_declared, all_declared, roles_of, fault_of, name_read, set_read}
-use Rattle.fields.specs.FieldLaws.{worse, at_place, roles_read, set_fault, name_fault}
-use Rattle.lines.specs.Lines.{Line, asked, assign, assign_kind, comes_to, end, five_fields, goal, goal_kind, has, has_kind, header, in_order, judged, line_of, one_field, other, policy_line, revoke, revoke_kind, role, tests, three_fields, two_fields, user}
-
--- A line whose fields have one fault together is judged by that fault; what it says counts only where there is none.
-pub by_fault : (ordered limited formed known : Bool) (e e' : Entry) → (formed ≡ true → known ≡ true → e ≡ e')
-    → comes_to (ordered && ltb (fault_of formed known) 2) limited (eqb (fault_of formed known) 0) e ≡ comes_to (ordered && formed) limited known e'
-unfolding comes_to tests in_turn fault_of
-by_fault true limited true true e e' same = ap (λ (x : Entry). cond limited (PolicyLine.Good x) (PolicyLine.Bad 12)) (same refl refl)
-by_fault true limited true false e e' same = refl
-by_fault true limited false known e e' same = refl
-by_fault false limited formed known e e' same = refl
+use Rattle.fields.specs.Fields.{placed, is_declared, all_declared, roles_of, field_read, name_read, set_read, both_read}
+use Rattle.fields.specs.FieldLaws.{both_fields}
+use Rattle.lines.specs.Lines.{Line, asked, assign, comes_to, end, five_fields, goal, has, header, judged, line_of, one_field, other, policy_line, revoke, role, three_fields, two_fields, user}
 
 -- ---- each kind of line, from what a reader finds
 
--- a line of two names: their faults, read against their tables, give the line's fault
-two_names : (first second : List Name) (a b : List ℕ) (fault : ℕ) (A B : NameRead) → A ≡ name_read first a → B ≡ name_read second b → fault ≡ max A.fault B.fault
-    → fault ≡ fault_of (is_name a && is_name b) (is_declared first a && is_declared second b)
+-- whether a field is malformed
+unfoldable pub malformed : {A : Type 0} → Result A Fault → Bool
+malformed (Ok a) = false
+malformed (Err Fault.Malformed) = true
+malformed (Err Fault.AboveLimit) = false
+malformed (Err Fault.Undeclared) = false
+
+-- what the fields of a line come to: malformed, then limit, then names
+unfoldable pub turned : {A : Type 0} (formed within : Bool) → Result A Fault → Result A Fault
+turned formed within fields = cond (formed && not (malformed fields)) (cond within fields (Err Fault.AboveLimit)) (Err Fault.Malformed)
+
+-- A line whose fields are read says what they say, and has their fault with that of the line.
+module _ {A : Type 0} (make : A → Entry) (limited formed known : Bool) (value : A) {ordered order : Bool} {fields turn : Result A Fault}
+    (is : order ≡ ordered) (read : fields ≡ field_read formed known value) (turns : turn ≡ turned order limited fields) where
+  made : turn ≡ turned ordered limited (field_read formed known value)
+  made = turns ∙ ap₂ (λ (o : Bool) (r : Result A Fault). turned o limited r) is read
+
+  pub line_read : {a : A} → turn ≡ Ok a → Ok (make a) ≡ comes_to (ordered && formed) limited known (make value)
+  unfolding turned malformed field_read comes_to
+  line_read {a} good = go ordered limited formed known (sym good ∙ made)
+    where
+      go : (o l f k : Bool) → Ok a ≡ turned o l (field_read f k value) → Ok (make a) ≡ comes_to (o && f) l k (make value)
+      go true true true true e = ap (λ (x : A). Ok (make x)) (cc)
+      go true true true false e = absurd (true≢false (cc))
+      go true true false k e = absurd (true≢false (cc))
+      go true false true true e = absurd (true≢false (cc))
+      go true false true false e = absurd (true≢false (cc))
+      go true false false k e = absurd (true≢false (cc))
+      go false l f k e = absurd (true≢false (cc))
+
+  pub line_faulty : {fault : Fault} → turn ≡ Err fault → Err fault ≡ comes_to (ordered && formed) limited known (make value)
+  unfolding turned malformed field_read comes_to
+  line_faulty {fault} bad = go ordered limited formed known (sym bad ∙ made)
+    where
+      go : (o l f k : Bool) → Err fault ≡ turned o l (field_read f k value) → Err fault ≡ comes_to (o && f) l k (make value)
+      go true true true true e = absurd (true≢false (cc))
+      go true true true false e = cc
+      go true true false k e = cc
+      go true false true true e = cc
+      go true false true false e = cc
+      go true false false k e = cc
+      go false l f k e = cc
+
+-- the fields of a line of two names
+pub two_names : (first second : List Name) (a b : List ℕ) {A B : Result ℕ Fault} {both : Result (ℕ × ℕ) Fault} → A ≡ name_read first a → B ≡ name_read second b → both ≡ both_read A B
+    → both ≡ field_read (is_name a && is_name b) (is_declared first a && is_declared second b) (placed first a, placed second b)
 unfolding name_read
-two_names first second a b fault A B hA hB worst =
-    worst ∙ ap₂ (λ (x y : NameRead). max x.fault y.fault) hA hB ∙ worse (is_name a) (is_declared first a) (is_name b) (is_declared second b)
+two_names first second a b hA hB are = are ∙ ap₂ both_read hA hB ∙ both_fields (is_name a) (is_declared first a) (is_name b) (is_declared second b) (placed first a) (placed second b)
 
-pub has_judged : (c : Counts) (roles users : List Name) (holder held : List ℕ) {U R : NameRead} {fault : ℕ} {order : Bool} {answer : PolicyLine}
-    → U ≡ name_read users holder → R ≡ name_read roles held → fault ≡ max U.fault R.fault → order ≡ in_order c.stage has_kind
-    → answer ≡ comes_to (order && ltb fault 2) true (eqb fault 0) (Entry.Has U.place R.place) → answer ≡ judged c roles users (has holder held)
-unfolding judged asked name_read
-has_judged c roles users holder held {U} {R} {fault} hU hR worst ordered given =
-    given
-    ∙ ap₂ (λ (o : Bool) (f : ℕ). comes_to (o && ltb f 2) true (eqb f 0) (Entry.Has U.place R.place)) ordered (two_names users roles holder held fault U R hU hR worst)
-    ∙ by_fault (in_order c.stage has_kind) true _ _ _ _ (λ f k. ap₂ (λ (x y : NameRead). Entry.Has x.place y.place) hU hR)
-
-pub revoke_judged : (c : Counts) (roles users : List Name) (admin target : List ℕ) {A T : NameRead} {fault : ℕ} {order : Bool} {answer : PolicyLine}
-    → A ≡ name_read roles admin → T ≡ name_read roles target → fault ≡ max A.fault T.fault → order ≡ in_order c.stage revoke_kind
-    → answer ≡ comes_to (order && ltb fault 2) (ltb c.revokes 256) (eqb fault 0) (Entry.Revoke (record { admin = A.place; target = T.place })) → answer ≡ judged c roles users (revoke admin target)
-unfolding judged asked name_read
-revoke_judged c roles users admin target {A} {T} {fault} hA hT worst ordered given =
-    given
-    ∙ ap₂ (λ (o : Bool) (f : ℕ). comes_to (o && ltb f 2) (ltb c.revokes 256) (eqb f 0) (Entry.Revoke (record { admin = A.place; target = T.place }))) ordered (two_names roles roles admin target fault A T hA hT worst)
-    ∙ by_fault (in_order c.stage revoke_kind) (ltb c.revokes 256) _ _ _ _ (λ f k. ap₂ (λ (x y : NameRead). Entry.Revoke (record { admin = x.place; target = y.place })) hA hT)
-
-pub goal-judged : (c : Counts) (roles users : List Name) (set : List ℕ) {S : SetRead} {order dash : Bool} {answer : PolicyLine}
-    → S ≡ set_read roles set → order ≡ in_order c.stage goal_kind → dash ≡ same_bytes set (bytes "-")
-    → answer ≡ comes_to ((order && not dash) && ltb S.fault 2) (ltb c.goals 32) (eqb S.fault 0) (Entry.Goal S.roles) → answer ≡ judged c roles users (goal set)
-unfolding judged asked
-goal-judged c roles users set {S} {order} {dash} hS ordered dashed given =
-    given
-    ∙ ap₂ (λ (o : Bool) (f : ℕ). comes_to (o && ltb f 2) (ltb c.goals 32) (eqb f 0) (Entry.Goal S.roles)) (ap₂ (λ (x y : Bool). x && not y) ordered dashed) (set_fault roles set hS)
-    ∙ by_fault (in_order c.stage goal_kind && not (same_bytes set (bytes "-"))) (ltb c.goals 32) _ _ _ _ (λ f k. ap Entry.Goal (roles_read roles set hS f k))
-
-pub assign_judged : (c : Counts) (roles users : List Name) (admin positive negative target : List ℕ) {A T : NameRead} {P N : SetRead} {first second fault : ℕ} {order : Bool} {answer : PolicyLine}
-    → A ≡ name_read roles admin → P ≡ set_read roles positive → N ≡ set_read roles negative → T ≡ name_read roles target → first ≡ max A.fault P.fault → second ≡ max N.fault T.fault
-    → fault ≡ max first second → order ≡ in_order c.stage assign_kind
-    → answer ≡ comes_to (order && ltb fault 2) (ltb c.assigns 256) (eqb fault 0) (Entry.Assign (assigning A.place P.roles N.roles T.place))
-    → answer ≡ judged c roles users (assign admin positive negative target)
-unfolding judged asked
-assign_judged c roles users admin positive negative target {A} {T} {P} {N} {first} {second} {fault} hA hP hN hT one two worst ordered given =
-    given
-    ∙ ap₂ (λ (o : Bool) (f : ℕ). comes_to (o && ltb f 2) (ltb c.assigns 256) (eqb f 0) (Entry.Assign (assigning A.place P.roles N.roles T.place))) ordered all
-    ∙ by_fault (in_order c.stage assign_kind) (ltb c.assigns 256) _ _ _ _ (λ f k. same f k)
-  where
-    left : first ≡ fault_of (is_name admin && is_set positive) (is_declared roles admin && all_declared roles positive)
-    left = one ∙ ap₂ max (name_fault roles admin hA) (set_fault roles positive hP) ∙ worse (is_name admin) (is_declared roles admin) (is_set positive) (all_declared roles positive)
-
-    right : second ≡ fault_of (is_set negative && is_name target) (all_declared roles negative && is_declared roles target)
-    right = two ∙ ap₂ max (set_fault roles negative hN) (name_fault roles target hT) ∙ worse (is_set negative) (all_declared roles negative) (is_name target) (is_declared roles target)
-
-    all : fault ≡ fault_of (is_name admin && is_set positive && (is_set negative && is_name target)) (is_declared roles admin && all_declared roles positive && (all_declared roles negative && is_declared roles target))
-    all = worst ∙ ap₂ max left right ∙ worse (is_name admin && is_set positive) (is_declared roles admin && all_declared roles positive) (is_set negative && is_name target) (all_declared roles negative && is_declared roles target)
-
-    same : (is_name admin && is_set positive && (is_set negative && is_name target)) ≡ true → (is_declared roles admin && all_declared roles positive && (all_declared roles negative && is_declared roles target)) ≡ true
-        → Entry.Assign (assigning A.place P.roles N.roles T.place)
-        ≡ Entry.Assign (assigning (placed roles admin) (roles_of roles positive) (roles_of roles negative) (placed roles target))
-    same f k =
-        let forms = (and-eq-true_iff (is_name admin && is_set positive) (is_set negative && is_name target)).0 f in
-        let knowns = (and-eq-true_iff (is_declared roles admin && all_declared roles positive) (all_declared roles negative && is_declared roles target)).0 k in
-        let plus = roles_read roles positive hP ((and-eq-true_iff (is_name admin) (is_set positive)).0 forms.0).1 ((and-eq-true_iff (is_declared roles admin) (all_declared roles positive)).0 knowns.0).1 in
-        let minus = roles_read roles negative hN ((and-eq-true_iff (is_set negative) (is_name target)).0 forms.1).0 ((and-eq-true_iff (all_declared roles negative) (is_declared roles target)).0 knowns.1).0 in
-        λ i. Entry.Assign (assigning (at_place roles admin hA i) (plus i) (minus i) (at_place roles target hT i))
+-- the fields of an assign line
+pub four_fields : (roles : List Name) (admin positive negative target : List ℕ) {A T : Result ℕ Fault} {P N : Result RoleSet Fault}
+    {first : Result (ℕ × RoleSet) Fault} {second : Result (RoleSet × ℕ) Fault} {all : Result ((ℕ × RoleSet) × (RoleSet × ℕ)) Fault}
+    → A ≡ name_read roles admin → P ≡ set_read roles positive → N ≡ set_read roles negative → T ≡ name_read roles target → first ≡ both_read A P → second ≡ both_read N T → all ≡ both_read first second
+    → all
+    ≡ field_read (is_name admin && is_set positive && (is_set negative && is_name target)) (is_declared roles admin && all_declared roles positive && (all_declared roles negative && is_declared roles target))
+    ((placed roles admin, roles_of roles positive), (roles_of roles negative, placed roles target))
+unfolding name_read set_read
+four_fields roles admin positive negative target hA hP hN hT one two are =
+    are
+    ∙ ap₂ both_read (one ∙ ap₂ both_read hA hP ∙ both_fields (is_name admin) (is_declared roles admin) (is_set positive) (all_declared roles positive) (placed roles admin) (roles_of roles positive))
+    (two ∙ ap₂ both_read hN hT ∙ both_fields (is_set negative) (all_declared roles negative) (is_name target) (is_declared roles target) (roles_of roles negative) (placed roles target))
+    ∙ both_fields (is_name admin && is_set positive) (is_declared roles admin && all_declared roles positive) (is_set negative && is_name target) (all_declared roles negative && is_declared roles target)
+    (placed roles admin, roles_of roles positive) (roles_of roles negative, placed roles target)
 
 -- ---- a line by its number of fields, from the tabs that a reader finds
 
--- the words that begin a line of two fields
-pub two_role : (word field : List ℕ) → same_bytes word (bytes "role") ≡ true → role field ≡ two_fields word field
-unfolding two_fields
-two_role word field e = rw e
-
-pub two_goal : (word field : List ℕ) → same_bytes word (bytes "role") ≡ false → same_bytes word (bytes "goal") ≡ true → goal field ≡ two_fields word field
-unfolding two_fields
-two_goal word field e f = rw (e, f)
-
-pub two_header : (word field : List ℕ) → same_bytes word (bytes "role") ≡ false → same_bytes word (bytes "goal") ≡ false → same_bytes word (bytes "arbac") ≡ true → header field ≡ two_fields word field
-unfolding two_fields
-two_header word field e f g = rw (e, f, g)
-
-pub two_other : (word field : List ℕ) → same_bytes word (bytes "role") ≡ false → same_bytes word (bytes "goal") ≡ false → same_bytes word (bytes "arbac") ≡ false → other ≡ two_fields word field
-unfolding two_fields
-two_other word field e f g = rw (e, f, g)
-
--- of three
-pub three_has : (word a b : List ℕ) → same_bytes word (bytes "has") ≡ true → has a b ≡ three_fields word a b
-unfolding three_fields
-three_has word a b e = rw e
-
-pub three_revoke : (word a b : List ℕ) → same_bytes word (bytes "has") ≡ false → same_bytes word (bytes "revoke") ≡ true → revoke a b ≡ three_fields word a b
-unfolding three_fields
-three_revoke word a b e f = rw (e, f)
-
-pub three_user : (word a b : List ℕ) → same_bytes word (bytes "has") ≡ false → same_bytes word (bytes "revoke") ≡ false → same_bytes word (bytes "user") ≡ true → user a b ≡ three_fields word a b
-unfolding three_fields
-three_user word a b e f g = rw (e, f, g)
-
-pub three_other : (word a b : List ℕ) → same_bytes word (bytes "has") ≡ false → same_bytes word (bytes "revoke") ≡ false → same_bytes word (bytes "user") ≡ false → other ≡ three_fields word a b
-unfolding three_fields
-three_other word a b e f g = rw (e, f, g)
-
 -- a line of no kind is malformed
-pub other-judged : (c : Counts) (roles users : List Name) → PolicyLine.Bad 11 ≡ judged c roles users other
-unfolding judged asked comes_to tests in_turn
-other-judged c roles users = refl
-
-pub one_judged : (c : Counts) (roles users : List Name) (word : List ℕ) {is : Bool} {answer : PolicyLine} → is ≡ same_bytes word (bytes "end")
-    → answer ≡ comes_to (is && eqb c.stage goal_kind) true true Entry.End → answer ≡ judged c roles users (one_field word)
-unfolding judged asked comes_to tests in_turn one_field
-one_judged c roles users word {is} same given = given ∙ ap (λ (b : Bool). comes_to (b && eqb c.stage goal_kind) true true Entry.End) same ∙ go (same_bytes word (bytes "end"))
-  where
-    go : (b : Bool) → comes_to (b && eqb c.stage goal_kind) true true Entry.End ≡ judged c roles users (cond b end other)
-    go true = refl
-    go false = refl
+pub other_judged : (c : Counts) (roles users : List Name) → Err Fault.Malformed ≡ judged c roles users other
+unfolding judged asked comes_to
+other_judged c roles users = refl
 
 -- ---- the fields of a line
 
@@ -184,12 +128,20 @@ pub record GoodLine (c : Counts) (roles users : List Name) (line : Line) (e : En
   pub known : (asked c roles users line).known ≡ true
   pub says : (asked c roles users line).says ≡ e
 
-pub line_good : (c : Counts) (roles users : List Name) (line : List ℕ) {e : Entry} → policy_line c roles users line ≡ PolicyLine.Good e → GoodLine c roles users (line_of (split 9 line)) e
-unfolding policy_line judged comes_to tests
-line_good c roles users line {e} good =
+-- what comes to an entry passes the tests, and says it
+comes_good : (formed within known : Bool) {says e : Entry} → comes_to formed within known says ≡ Ok e → (formed ≡ true) × (within ≡ true) × (known ≡ true) × (says ≡ e)
+unfolding comes_to
+comes_good true true true is = (refl, refl, refl, cc)
+comes_good true true false is = absurd (true≢false (cc))
+comes_good true false known is = absurd (true≢false (cc))
+comes_good false within known is = absurd (true≢false (cc))
+
+pub line_good : (c : Counts) (roles users : List Name) (line : List ℕ) {e : Entry} → policy_line c roles users line ≡ Ok e → GoodLine c roles users (line_of (split 9 line)) e
+unfolding policy_line judged
+line_good c roles users line good =
     let a = asked c roles users (line_of (split 9 line)) in
-    let (passed, says) = turn_good PolicyLine.Bad (tests a.formed a.within a.known) (PolicyLine.Good a.says) (PolicyLine.Good e) (λ k is. true≢false (cc)) good in
-    record { formed = passed.0; within = passed.1.0; known = passed.1.1.0; says = cc }
+    let (formed, within, known, says) = comes_good a.formed a.within a.known good in
+    record { formed = formed; within = within; known = known; says = says }
 
 -- There is room for the entry, and a holding's user is declared.
 abbrev pub Fitting : Counts → Entry → Type 0

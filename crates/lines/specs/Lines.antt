@@ -1,14 +1,14 @@
 -- One line of a policy: its kind, and when it is malformed, above a limit or names what is undeclared (document 01, "The texts").
-use Rattle.std.specs.Prelude.{ℕ, Bool, true, false, cond, not, ◌&&◌, List, [], ◌∷◌, leb, ltb, eqb}
+use Rattle.std.specs.Prelude.{ℕ, Bool, true, false, cond, not, ◌&&◌, List, [], ◌∷◌, Result, Ok, Err, leb, ltb, eqb}
 use Rattle.model.specs.Policy.{assigning}
 use Rattle.tables.specs.declared.Name.{Name}
 use Rattle.text.specs.Forms.{bytes, is_name, is_set, is_label}
 use Rattle.tables.specs.Names.{packed}
 use Rattle.text.specs.Pieces.{split, same_bytes}
-use Rattle.walking.specs.Turns.{Test, test, in_turn}
+use Rattle.walking.specs.declared.Fault.{Fault}
+use Rattle.walking.specs.Turns.{Test, test}
 use Rattle.lines.specs.declared.Counts.{Counts}
 use Rattle.lines.specs.declared.Entry.{Entry}
-use Rattle.lines.specs.declared.PolicyLine.{PolicyLine}
 use Rattle.fields.specs.Fields.{placed, is_declared, all_declared, roles_of}
 
 -- A line by its first field and the number of its fields.
@@ -134,16 +134,12 @@ asked c roles users other = record { formed = false; within = true; known = true
 unfoldable pub tests : (formed within known : Bool) → List Test
 tests formed within known = test 11 formed ∷ test 12 within ∷ test 13 known ∷ []
 
-unfoldable pub comes_to : (formed within known : Bool) → Entry → PolicyLine
-comes_to formed within known e = in_turn PolicyLine.Bad (tests formed within known) (PolicyLine.Good e)
+-- What a line comes to: the fault of the first of these tests that fails, and its entry where it passes all.
+unfoldable pub comes_to : (formed within known : Bool) → Entry → Result Entry Fault
+comes_to formed within known e = cond formed (cond within (cond known (Ok e) (Err Fault.Undeclared)) (Err Fault.AboveLimit)) (Err Fault.Malformed)
 
-unfoldable pub judged : Counts → (roles users : List Name) → Line → PolicyLine
+unfoldable pub judged : Counts → (roles users : List Name) → Line → Result Entry Fault
 judged c roles users line = let a = asked c roles users line in comes_to a.formed a.within a.known a.says
 
-unfoldable pub policy_line : Counts → (roles users : List Name) → List ℕ → PolicyLine
+unfoldable pub policy_line : Counts → (roles users : List Name) → List ℕ → Result Entry Fault
 policy_line c roles users line = judged c roles users (line_of (split 9 line))
-
--- the refusal's number of a line that is not good
-unfoldable pub code_of : PolicyLine → ℕ
-code_of (PolicyLine.Good e) = 0
-code_of (PolicyLine.Bad number) = number

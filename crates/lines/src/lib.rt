@@ -4,12 +4,14 @@
 ghost use Rattle.std.specs.Prelude.{◌≡◌, ◌*◌, ◌≤◌, length, List};
 ghost use Rattle.tables.specs.declared.Name.{Name};
 ghost use Rattle.tables.specs.Names.{rows};
-ghost use Rattle.lines.specs.Lines.{Line, one_field, two_fields, three_fields, in_order, comes_to, judged, policy_line};
+ghost use Rattle.lines.specs.Lines.{Line, one_field, two_fields, three_fields, in_order, judged, policy_line};
+ghost use Rattle.lines.specs.LineLaws.{turned};
 
-use fields::{read_name, read_set, worse};
+use fields::{both, read_name, read_set};
 use model::{Assign, Revoke};
 use roles::RoleSet;
 use tables::Name;
+use walking::{Fault, pass};
 
 // The kinds of lines in the order in which they come, with room between them.
 pub const HEADER: usize = 10;
@@ -52,98 +54,93 @@ pub enum Entry {
     End,
 }
 
-// A line's answer: what it says, or the refusal's number.
-#[derive(Clone, Copy)]
-pub enum PolicyLine {
-    Good(Entry),
-    Bad(u64),
-}
-
 // Whether a line of a kind may follow lines of the stage.
+#[tactic(auto, unfolding(crate::specs::Lines::in_order))]
 fn in_order(stage: usize, kind: usize) -> bool
     ensures { result ≡ in_order stage kind }
 {
     (HEADER <= stage) & (stage <= kind)
 }
 
-// Malformed, then limit, then names.
-fn in_turn(formed: bool, limited: bool, declared: bool, entry: Entry) -> PolicyLine
-    ensures { result ≡ comes_to formed limited declared entry }
+// Malformed, then limit, then names: what the fields of a line are read as, where the line has its form and is within its limit.
+#[tactic(auto, unfolding(crate::specs::LineLaws::turned, crate::specs::LineLaws::malformed))]
+fn in_turn<A: Copy>(formed: bool, limited: bool, read: Result<A, Fault>) -> Result<A, Fault>
+    ensures { result ≡ turned formed limited read }
 {
-    if !formed {
-        return PolicyLine::Bad(11);
-    }
-    if !limited {
-        return PolicyLine::Bad(12);
-    }
-    if !declared {
-        return PolicyLine::Bad(13);
-    }
-    PolicyLine::Good(entry)
+    let malformed = matches!(read, Err(Fault::Malformed));
+    pass(formed & !malformed, Fault::Malformed)?;
+    pass(limited, Fault::AboveLimit)?;
+    read
 }
 
 // The header, edition 1.
-fn header_line(edition: &[u8], c: Counts) -> PolicyLine
+#[tactic(auto, unfolding(crate::specs::Lines::judged, crate::specs::Lines::asked, crate::specs::Lines::comes_to))]
+fn header_line(edition: &[u8], c: Counts) -> Result<Entry, Fault>
     ensures { (roles users : List Name) → result ≡ judged c roles users (Line.header edition.now) }
 {
     let formed = (c.stage == 0) & text::same(edition, b"1");
-    in_turn(formed, true, true, Entry::Header)
+    pass(formed, Fault::Malformed)?;
+    Ok(Entry::Header)
 }
 
 // A role line: a new role name.
-fn role_line(name: &[u8], roles: &[u64], c: Counts) -> PolicyLine
+#[tactic(auto, using(fields::specs::FieldLaws::new_test), unfolding(crate::specs::Lines::judged, crate::specs::Lines::asked, crate::specs::Lines::comes_to))]
+fn role_line(name: &[u8], roles: &[u64], c: Counts) -> Result<Entry, Fault>
     requires { 4 * c.roles ≤ length roles.now }
     ensures { (users : List Name) → result ≡ judged c (rows c.roles roles.now) users (Line.role name.now) }
 {
     let packed = tables::pack(name);
-    let count = c.roles;
-    let place = tables::find(roles, count, packed);
-    let formed = in_order(c.stage, ROLE) & text::is_name(name) & (count <= place);
-    in_turn(formed, count < 128, true, Entry::Role(packed))
+    let new = tables::find(roles, c.roles, packed).is_none();
+    let formed = in_order(c.stage, ROLE) & text::is_name(name) & new;
+    pass(formed, Fault::Malformed)?;
+    pass(c.roles < 128, Fault::AboveLimit)?;
+    Ok(Entry::Role(packed))
 }
 
 // A user line: a new user name and a clearance.
-fn user_line(name: &[u8], clearance: &[u8], users: &[u64], c: Counts) -> PolicyLine
+#[tactic(auto, using(fields::specs::FieldLaws::new_test), unfolding(crate::specs::Lines::judged, crate::specs::Lines::asked, crate::specs::Lines::comes_to))]
+fn user_line(name: &[u8], clearance: &[u8], users: &[u64], c: Counts) -> Result<Entry, Fault>
     requires { 4 * c.users ≤ length users.now }
     ensures { (roles : List Name) → result ≡ judged c roles (rows c.users users.now) (Line.user name.now clearance.now) }
 {
     let packed = tables::pack(name);
-    let count = c.users;
-    let place = tables::find(users, count, packed);
-    let formed = in_order(c.stage, USER)
-        & text::is_name(name)
-        & text::is_label(clearance)
-        & (count <= place);
-    let high = text::same(clearance, b"H");
-    in_turn(formed, count < 64, true, Entry::User(packed, high))
+    let new = tables::find(users, c.users, packed).is_none();
+    let formed = in_order(c.stage, USER) & text::is_name(name) & text::is_label(clearance) & new;
+    pass(formed, Fault::Malformed)?;
+    pass(c.users < 64, Fault::AboveLimit)?;
+    Ok(Entry::User(packed, text::same(clearance, b"H")))
 }
 
 // A has line: a declared user and a declared role.
-fn has_line(user: &[u8], role: &[u8], roles: &[u64], users: &[u64], c: Counts) -> PolicyLine
+fn has_line(
+    user: &[u8],
+    role: &[u8],
+    roles: &[u64],
+    users: &[u64],
+    c: Counts,
+) -> Result<Entry, Fault>
     requires { (4 * c.roles ≤ length roles.now) × (4 * c.users ≤ length users.now) }
     ensures { result ≡ judged c (rows c.roles roles.now) (rows c.users users.now) (Line.has user.now role.now) }
 {
-    let u = read_name(user, users, c.users);
-    let r = read_name(role, roles, c.roles);
-    let fault = worse(u.fault, r.fault);
-    let formed = in_order(c.stage, HAS) & (fault < 2);
-    in_turn(formed, true, fault == 0, Entry::Has(u.place, r.place))
+    let pair = both(
+        read_name(user, users, c.users),
+        read_name(role, roles, c.roles),
+    );
+    let (holder, held) = in_turn(in_order(c.stage, HAS), true, pair)?;
+    Ok(Entry::Has(holder, held))
 }
 
 // A revoke line: two declared roles.
-fn revoke_line(admin: &[u8], target: &[u8], roles: &[u64], c: Counts) -> PolicyLine
+fn revoke_line(admin: &[u8], target: &[u8], roles: &[u64], c: Counts) -> Result<Entry, Fault>
     requires { 4 * c.roles ≤ length roles.now }
     ensures { (users : List Name) → result ≡ judged c (rows c.roles roles.now) users (Line.revoke admin.now target.now) }
 {
-    let a = read_name(admin, roles, c.roles);
-    let t = read_name(target, roles, c.roles);
-    let fault = worse(a.fault, t.fault);
-    let formed = in_order(c.stage, REVOKE) & (fault < 2);
-    let rule = Revoke {
-        admin: a.place,
-        target: t.place,
-    };
-    in_turn(formed, c.revokes < 256, fault == 0, Entry::Revoke(rule))
+    let names = both(
+        read_name(admin, roles, c.roles),
+        read_name(target, roles, c.roles),
+    );
+    let (admin, target) = in_turn(in_order(c.stage, REVOKE), c.revokes < 256, names)?;
+    Ok(Entry::Revoke(Revoke { admin, target }))
 }
 
 // An assign line: declared roles and sets of declared roles.
@@ -154,56 +151,56 @@ fn assign_line(
     target: &[u8],
     roles: &[u64],
     c: Counts,
-) -> PolicyLine
+) -> Result<Entry, Fault>
     requires { (length positive.now ≤ 32768) × (length negative.now ≤ 32768) × (4 * c.roles ≤ length roles.now) × (c.roles ≤ 128) }
     ensures { (users : List Name) → result ≡ judged c (rows c.roles roles.now) users (Line.assign admin.now positive.now negative.now target.now) }
 {
-    let a = read_name(admin, roles, c.roles);
-    let p = read_set(positive, roles, c.roles);
-    let n = read_set(negative, roles, c.roles);
-    let t = read_name(target, roles, c.roles);
-    let first = worse(a.fault, p.fault);
-    let second = worse(n.fault, t.fault);
-    let fault = worse(first, second);
-    let formed = in_order(c.stage, ASSIGN) & (fault < 2);
-    let plus = p.roles;
-    let minus = n.roles;
-    let rule = Assign {
-        admin: a.place,
-        positive: plus,
-        negative: minus,
-        target: t.place,
-    };
-    in_turn(formed, c.assigns < 256, fault == 0, Entry::Assign(rule))
+    let first = both(
+        read_name(admin, roles, c.roles),
+        read_set(positive, roles, c.roles),
+    );
+    let second = both(
+        read_set(negative, roles, c.roles),
+        read_name(target, roles, c.roles),
+    );
+    let all = both(first, second);
+    let ((admin, positive), (negative, target)) = in_turn(
+        in_order(c.stage, ASSIGN),
+        c.assigns < 256,
+        all,
+    )?;
+    Ok(Entry::Assign(Assign {
+        admin,
+        positive,
+        negative,
+        target,
+    }))
 }
 
 // A goal line: a set of declared roles that is not empty.
-fn goal_line(set: &[u8], roles: &[u64], c: Counts) -> PolicyLine
+fn goal_line(set: &[u8], roles: &[u64], c: Counts) -> Result<Entry, Fault>
     requires { (length set.now ≤ 32768) × (4 * c.roles ≤ length roles.now) × (c.roles ≤ 128) }
     ensures { (users : List Name) → result ≡ judged c (rows c.roles roles.now) users (Line.goal set.now) }
 {
-    let s = read_set(set, roles, c.roles);
-    let fault = s.fault;
+    let held = read_set(set, roles, c.roles);
     let ordered = in_order(c.stage, GOAL) & !text::same(set, b"-");
-    let held = s.roles;
-    in_turn(
-        ordered & (fault < 2),
-        c.goals < 32,
-        fault == 0,
-        Entry::Goal(held),
-    )
+    let goal = in_turn(ordered, c.goals < 32, held)?;
+    Ok(Entry::Goal(goal))
 }
 
 // A line of one field: `end` after a goal.
-fn one_field(word: &[u8], c: Counts) -> PolicyLine
+#[tactic(auto, unfolding(crate::specs::Lines::judged, crate::specs::Lines::asked, crate::specs::Lines::comes_to, crate::specs::Lines::one_field))]
+fn one_field(word: &[u8], c: Counts) -> Result<Entry, Fault>
     ensures { (roles users : List Name) → result ≡ judged c roles users (one_field word.now) }
 {
     let formed = text::same(word, b"end") & (c.stage == GOAL);
-    in_turn(formed, true, true, Entry::End)
+    pass(formed, Fault::Malformed)?;
+    Ok(Entry::End)
 }
 
 // A line of two fields: a role, a goal or the header.
-fn two_fields(word: &[u8], field: &[u8], roles: &[u64], c: Counts) -> PolicyLine
+#[tactic(auto, using(crate::specs::LineLaws::other_judged), unfolding(crate::specs::Lines::two_fields))]
+fn two_fields(word: &[u8], field: &[u8], roles: &[u64], c: Counts) -> Result<Entry, Fault>
     requires { (length field.now ≤ 32768) × (4 * c.roles ≤ length roles.now) × (c.roles ≤ 128) }
     ensures { (users : List Name) → result ≡ judged c (rows c.roles roles.now) users (two_fields word.now field.now) }
 {
@@ -216,10 +213,11 @@ fn two_fields(word: &[u8], field: &[u8], roles: &[u64], c: Counts) -> PolicyLine
     if text::same(word, b"arbac") {
         return header_line(field, c);
     }
-    PolicyLine::Bad(11)
+    Err(Fault::Malformed)
 }
 
 // A line of three fields: a holding, a revoke rule or a user.
+#[tactic(auto, using(crate::specs::LineLaws::other_judged), unfolding(crate::specs::Lines::three_fields))]
 fn three_fields(
     word: &[u8],
     first: &[u8],
@@ -227,7 +225,7 @@ fn three_fields(
     roles: &[u64],
     users: &[u64],
     c: Counts,
-) -> PolicyLine
+) -> Result<Entry, Fault>
     requires { (4 * c.roles ≤ length roles.now) × (4 * c.users ≤ length users.now) }
     ensures { result ≡ judged c (rows c.roles roles.now) (rows c.users users.now) (three_fields word.now first.now second.now) }
 {
@@ -240,11 +238,16 @@ fn three_fields(
     if text::same(word, b"user") {
         return user_line(first, second, users, c);
     }
-    PolicyLine::Bad(11)
+    Err(Fault::Malformed)
 }
 
 // One line of a policy, without its LF, judged on its own bytes and on the names and counts of the lines above.
-pub fn read_line<'a>(line: &[u8], roles: &'a [u64], users: &'a [u64], c: Counts) -> PolicyLine
+pub fn read_line<'a>(
+    line: &[u8],
+    roles: &'a [u64],
+    users: &'a [u64],
+    c: Counts,
+) -> Result<Entry, Fault>
     requires { (length line.now ≤ 32768) × (4 * c.roles ≤ length roles.now) × (4 * c.users ≤ length users.now) × (c.roles ≤ 128) }
     ensures { result ≡ policy_line c (rows c.roles roles.now) (rows c.users users.now) line.now }
 {
@@ -266,14 +269,14 @@ pub fn read_line<'a>(line: &[u8], roles: &'a [u64], users: &'a [u64], c: Counts)
     }
     let e = text::seek(line, d + 1, b'\t');
     if e == end {
-        return PolicyLine::Bad(11);
+        return Err(Fault::Malformed);
     }
     let f = text::seek(line, e + 1, b'\t');
     if f < end {
-        return PolicyLine::Bad(11);
+        return Err(Fault::Malformed);
     }
     if text::same(word, b"assign") {
         return assign_line(first, second, &line[d + 1..e], &line[e + 1..f], roles, c);
     }
-    PolicyLine::Bad(11)
+    Err(Fault::Malformed)
 }

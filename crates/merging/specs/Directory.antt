@@ -1,16 +1,10 @@
 -- Whether two policies are over the same roles in order, the same users in order, with the same clearances and holdings.
-use Rattle.std.specs.Prelude.{Bool, true, false, not, cond, ◌&&◌, List, [], ◌∷◌, ◌≡◌}
+use Rattle.std.specs.Prelude.{Bool, not, cond, ◌&&◌, ◌≡◌}
+use Rattle.std.specs.Cmp.Lexicographic.{pointwise}
 use Rattle.roles.specs.Sets.{same_set}
 use Rattle.model.specs.declared.Person.{Person}
 use Rattle.tables.specs.Names.{same_name}
 use Rattle.reading.specs.Policy.{Said}
-
--- two lists of the same length whose elements are the same, one by one
-unfoldable pub same_lists {ℓ} : {A : Type ℓ} → (A → A → Bool) → List A → List A → Bool
-same_lists same [] [] = true
-same_lists same [] (y ∷ ys) = false
-same_lists same (x ∷ xs) [] = false
-same_lists same (x ∷ xs) (y ∷ ys) = same x y && same_lists same xs ys
 
 unfoldable pub same_label : Bool → Bool → Bool
 same_label l m = cond l m (not m)
@@ -20,7 +14,7 @@ unfoldable pub same_person : Person → Person → Bool
 same_person p q = same_label p.clearance q.clearance && same_label p.present q.present && same_set p.roles q.roles
 
 unfoldable pub same_directory : Said → Said → Bool
-same_directory s t = same_lists same_name s.roles t.roles && same_lists same_name s.users t.users && same_lists same_person s.holdings t.holdings
+same_directory s t = pointwise same_name s.roles t.roles && pointwise same_name s.users t.users && pointwise same_person s.holdings t.holdings
 
 -- The same roles in order, the same users in order, with the same clearances and holdings.
 pub record SameDirectory (s s' : Said) : Type 0 where

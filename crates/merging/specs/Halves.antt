@@ -1,10 +1,11 @@
 -- Two ledgers in one memory: that of policy one begins it, and that of policy two follows.
-use Rattle.std.specs.Prelude.{ℕ, ◌-◌, ◌≤◌, List, ◌++◌, ◌≡◌, length, take, drop}
+use Rattle.std.specs.Prelude.{ℕ, ◌-◌, ◌≤◌, List, Result, ◌++◌, ◌≡◌, length, take, drop}
 use Rattle.std.proofs.Common.{ap₂, ◌∙◌, length-drop, length-take-le, take_at, drop_at, arith}
 use Rattle.std.proofs.Math.Path.{subst⁻¹}
 use borrow.Rule.Slice.PartMut.{put_mid, take_put, same_len_mid}
 use Rattle.ledgers.specs.Ledger.{ledger_words}
-use Rattle.reading.specs.declared.PolicyRead.{PolicyRead}
+use Rattle.walking.specs.declared.Refusal.{Refusal}
+use Rattle.lines.specs.declared.Counts.{Counts}
 use Rattle.reading.specs.Read.{ReadInto}
 use Rattle.merging.specs.Merge.{merge_words}
 
@@ -37,7 +38,7 @@ module _ (memory : List ℕ) (enough : merge_words ≤ length memory) where
   one_kept words = take_put ledger_words (length memory - ledger_words) memory words (omega arith)
 
   -- a policy that is read into the first, or into the second, stands there
-  module _ {words text : List ℕ} {answer : PolicyRead} (into : ReadInto text answer words) where
+  module _ {words text : List ℕ} {answer : Result Counts Refusal} (into : ReadInto text answer words) where
     pub read_one : length words ≡ length (ledger_one memory) → ReadInto text answer (ledger_one (with_one memory words))
     read_one long = subst⁻¹ (ReadInto text answer) (take_at words (drop ledger_words memory) ledger_words (long ∙ one_room)) into
 

@@ -6,14 +6,13 @@ ghost use Rattle.ledgers.specs.Memory.{no_memory, in_memory, Spared};
 ghost use Rattle.reading.specs.Policy.{Said, counts_of};
 ghost use Rattle.reading.specs.Ledger.{Limited, ledger_says};
 ghost use Rattle.summing.specs.Outcome.{leaves, Meets};
-ghost use Rattle.merging.specs.declared.MergeAnswer.{MergeAnswer};
-ghost use Rattle.merging.specs.Merge.{when_same, merge_judged, merge_counted, merge_outcome, merge_words};
+ghost use Rattle.merging.specs.Merge.{merge_refused, when_same, merge_judged, merge_counted, merge_outcome, merge_words};
 ghost use Rattle.merging.specs.Halves.{ledger_one, ledger_two};
 ghost use Rattle.merging.specs.MergeOutcomes.{merge_typed};
 
 use crate::MergeAnswer;
 use crate::directory::same_directory;
-use judging::{TypingVerdict, judge_rules, judge_typing, pinned};
+use judging::{judge_rules, judge_typing, pinned};
 use ledgers::{NO_MEMORY, WORDS};
 use lines::Counts;
 use model::Typing;
@@ -21,9 +20,17 @@ use reading::read_policy;
 use summing::fitting::write_fitting;
 use summing::sum_of;
 use typings::read_typing;
+use walking::Refusal;
 
 // How many words of memory a merge takes: a ledger for each policy.
 pub const MERGE_WORDS: usize = 6144;
+
+// A refusal that speaks of no text.
+fn of_none(number: u64) -> MergeAnswer
+    ensures { result ≡ merge_refused 0 number 0 }
+{
+    MergeAnswer::Refused(0, Refusal { number, line: 0 })
+}
 
 // The sum of accepted typings over the role names, written with the joint counts: 19 where one of them is above its limit, 18
 // where the text does not fit.
@@ -36,19 +43,20 @@ fn write_joint(names: &[u64], p: Counts, q: Counts, t: Typing, out: &mut [u8]) -
     let revokes = p.revokes + q.revokes;
     let goals = p.goals + q.goals;
     if 256 < assigns {
-        return MergeAnswer::Refused(0, 19, 0);
+        return of_none(19);
     }
     if 256 < revokes {
-        return MergeAnswer::Refused(0, 19, 0);
+        return of_none(19);
     }
     if 32 < goals {
-        return MergeAnswer::Refused(0, 19, 0);
+        return of_none(19);
     }
-    let length = write_fitting(out, names, roles, t);
-    if length == 0 {
-        return MergeAnswer::Refused(0, 18, 0);
+    match write_fitting(out, names, roles, t) {
+        Some(length) => {
+            MergeAnswer::Merged(roles, assigns, revokes, goals, pinned(t, roles), length)
+        }
+        None => of_none(18),
     }
-    MergeAnswer::Merged(roles, assigns, revokes, goals, pinned(t, roles), length)
 }
 
 // The answer to two policies with a typing each, once they are read into ledgers.
@@ -65,19 +73,19 @@ fn merge_read(
     ensures { Meets (when_same (ledger_says one.now p) (ledger_says two.now q) (merge_judged (length out.old) (ledger_says one.now p) t (ledger_says two.now q) u)) out.old result out.new }
 {
     if !same_directory(one, p, two, q) {
-        return MergeAnswer::Refused(0, 17, 0);
+        return of_none(17);
     }
-    if let TypingVerdict::Fails(part, number) = judge_typing(one, p, t) {
-        return MergeAnswer::Unproved(1, part, number);
+    if let Err(failure) = judge_typing(one, p, t) {
+        return MergeAnswer::Unproved(1, failure);
     }
-    if let TypingVerdict::Fails(part, number) = judge_typing(two, q, u) {
-        return MergeAnswer::Unproved(2, part, number);
+    if let Err(failure) = judge_typing(two, q, u) {
+        return MergeAnswer::Unproved(2, failure);
     }
-    if let TypingVerdict::Fails(part, number) = judge_rules(two, q, t) {
-        return MergeAnswer::Unproved(3, part, number);
+    if let Err(failure) = judge_rules(two, q, t) {
+        return MergeAnswer::Unproved(3, failure);
     }
-    if let TypingVerdict::Fails(part, number) = judge_rules(one, p, u) {
-        return MergeAnswer::Unproved(4, part, number);
+    if let Err(failure) = judge_rules(one, p, u) {
+        return MergeAnswer::Unproved(4, failure);
     }
     write_joint(one, p, q, sum_of(t, u), out)
 }
@@ -95,11 +103,10 @@ fn merge_typed(
     ensures { Meets (merge_typed (length out.old) (ledger_says (ledger_one memory.now) p) t (ledger_says (ledger_two memory.now) q) typing_2.now) out.old result out.new }
 {
     let two = &memory[WORDS..];
-    let second = read_typing(typing_2, two, q.roles);
-    if second.refusal != 0 {
-        return MergeAnswer::Refused(4, second.refusal, second.line);
-    }
-    let u = second.typing;
+    let u = match read_typing(typing_2, two, q.roles) {
+        Ok(typing) => typing,
+        Err(refusal) => return MergeAnswer::Refused(4, refusal),
+    };
     merge_read(&memory[..WORDS], p, t, two, q, u, out)
 }
 
@@ -116,21 +123,19 @@ fn merge_with(
     requires { merge_words ≤ length memory.old }
     ensures { Meets (merge_outcome policy_1.now typing_1.now policy_2.now typing_2.now (length out.old)) out.old result out.new }
 {
-    let one = read_policy(policy_1, &mut memory[..WORDS]);
-    if one.refusal != 0 {
-        return MergeAnswer::Refused(1, one.refusal, one.line);
-    }
-    let p = one.counts;
-    let first = read_typing(typing_1, &memory[..WORDS], p.roles);
-    if first.refusal != 0 {
-        return MergeAnswer::Refused(2, first.refusal, first.line);
-    }
-    let two = read_policy(policy_2, &mut memory[WORDS..]);
-    if two.refusal != 0 {
-        return MergeAnswer::Refused(3, two.refusal, two.line);
-    }
-    let t = first.typing;
-    merge_typed(memory, p, t, two.counts, typing_2, out)
+    let p = match read_policy(policy_1, &mut memory[..WORDS]) {
+        Ok(counts) => counts,
+        Err(refusal) => return MergeAnswer::Refused(1, refusal),
+    };
+    let t = match read_typing(typing_1, &memory[..WORDS], p.roles) {
+        Ok(typing) => typing,
+        Err(refusal) => return MergeAnswer::Refused(2, refusal),
+    };
+    let q = match read_policy(policy_2, &mut memory[WORDS..]) {
+        Ok(counts) => counts,
+        Err(refusal) => return MergeAnswer::Refused(3, refusal),
+    };
+    merge_typed(memory, p, t, q, typing_2, out)
 }
 
 // The merge of two policies, each judged with a typing of its own: the sum of the typings, written into the lent buffer.
@@ -156,11 +161,11 @@ pub fn merge_in(
     out: &mut [u8],
     memory: &mut [u64],
 ) -> MergeAnswer
-    ensures meets { Meets (in_memory merge_words (length memory.old) (leaves (MergeAnswer.Refused 0 no_memory 0)) (merge_outcome policy_1.now typing_1.now policy_2.now typing_2.now (length out.old))) out.old result out.new }
+    ensures meets { Meets (in_memory merge_words (length memory.old) (leaves (merge_refused 0 no_memory 0)) (merge_outcome policy_1.now typing_1.now policy_2.now typing_2.now (length out.old))) out.old result out.new }
     ensures spared { Spared merge_words memory.old memory.new }
 {
     if memory.len() < MERGE_WORDS {
-        return MergeAnswer::Refused(0, NO_MEMORY, 0);
+        return of_none(NO_MEMORY);
     }
     merge_with(
         policy_1,

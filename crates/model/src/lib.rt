@@ -7,7 +7,7 @@ ghost use Rattle.model.specs.Policy.{newcomer, with_roles, with_role, without_ro
 use roles::RoleSet;
 
 // An actor who holds `admin` gives `target` to a user who holds all of `positive`, none of `negative` and not yet `target`.
-#[derive(Clone, Copy)]
+#[derive(Clone, Copy, PartialEq, Eq)]
 pub struct Assign {
     pub admin: usize,
     pub positive: RoleSet,
@@ -16,14 +16,14 @@ pub struct Assign {
 }
 
 // An actor who holds `admin` takes `target` from a user who holds it.
-#[derive(Clone, Copy)]
+#[derive(Clone, Copy, PartialEq, Eq)]
 pub struct Revoke {
     pub admin: usize,
     pub target: usize,
 }
 
 // A user's clearance, true for H and false for L, whether the user is present, and the roles that the user holds.
-#[derive(Clone, Copy)]
+#[derive(Clone, Copy, PartialEq, Eq)]
 pub struct Person {
     pub clearance: bool,
     pub present: bool,
@@ -46,11 +46,7 @@ impl Person {
     fn with_roles(self, roles: RoleSet) -> Self
         ensures { result ≡ with_roles self roles }
     {
-        Person {
-            clearance: self.clearance,
-            present: self.present,
-            roles,
-        }
+        Person { roles, ..self }
     }
 
     // The person with one role more.
@@ -72,9 +68,9 @@ impl Person {
         ensures { result ≡ leaver self }
     {
         Person {
-            clearance: self.clearance,
             present: false,
             roles: RoleSet::empty(),
+            ..self
         }
     }
 }

@@ -1,9 +1,8 @@
 -- The refusal of two texts is the one that their answer is.
-use Rattle.std.specs.Prelude.{ℕ, ◌-◌, Bool, cond, List, ◌≡◌, eqb, length}
+use Rattle.std.specs.Prelude.{ℕ, Bool, Option, Some, None, List, ◌≡◌, length, Ok, Err}
 use Rattle.std.proofs.Math.Bool.{true, false}
 use Rattle.std.proofs.Math.Path.{refl, sym, ap}
 use Rattle.std.proofs.Common.{subst, ◌∙◌}
-use Rattle.tables.specs.Names.{name_at}
 use Rattle.walking.specs.Texts.{Reading, read, refused}
 use Rattle.reading.specs.Policy.{Said, counts_of, policy_of}
 use Rattle.typings.specs.Kind.{is_typing}
@@ -12,15 +11,13 @@ use Rattle.traces.specs.TraceText.{Traced, read_trace}
 use Rattle.steps.specs.declared.Found.{Found}
 use Rattle.steps.specs.Tests.{first_bad}
 use Rattle.steps.specs.Traces.{Ran, broken, ran, run_of}
-use Rattle.judging.specs.declared.TypingVerdict.{TypingVerdict}
-use Rattle.judging.specs.Verdict.{typing_verdict}
-use Rattle.running.specs.declared.TraceVerdict.{TraceVerdict}
+use Rattle.judging.specs.Verdict.{TypingVerdict, typing_verdict}
 use Rattle.running.specs.Verdict.{last_verdict, ran_verdict, read_verdict, trace_verdict}
 use Rattle.answering.specs.declared.Answer.{Answer}
-use Rattle.answering.specs.Answers.{judged_answer, trace_answer, answer_of}
+use Rattle.answering.specs.Answers.{judged_answer, traced_answer, trace_answer, answer_of}
 use Rattle.answering.specs.Kinds.{typing_kind}
 use Rattle.answering.proofs.Outcomes.{Outcome, no_policy, no_typing, typed, traced, outcome}
-use Rattle.places.specs.declared.Refusal.{Refusal}
+use Rattle.walking.specs.declared.Refusal.{Refusal}
 use Rattle.places.specs.Place.{told, refusal_as, refusal_of, bad_place, bad_line}
 use Rattle.places.specs.PlaceLaws.{after_refused, after_read, typing_refused}
 use Rattle.places.specs.BadLines.{BadAt}
@@ -34,17 +31,17 @@ module _ (policy evidence : List ℕ) where
 
   -- a trace is refused as its verdict says
   trace_refusal : (s : Said) (r : Reading Traced) → told r ≡ refusal_in (trace_answer (read_verdict s r))
-  unfolding told refusal_in trace_answer read_verdict ran_verdict last_verdict
+  unfolding told refusal_in traced_answer trace_answer read_verdict ran_verdict last_verdict
   trace_refusal s (refused number line) = refl
   trace_refusal s (read t) = ranned (run_of (policy_of s) s.holdings t.steps)
     where
-      found : (b : Bool) (f : Found) → record { number = 0; line = 0 } ≡ refusal_in (trace_answer (cond b (TraceVerdict.Short (length t.steps)) (TraceVerdict.Attacked (length t.steps) (f.user - 1) (name_at t.names (f.user - 1)) f.goal)))
-      found true f = refl
-      found false f = refl
+      found : (o : Option Found) → None ≡ refusal_in (traced_answer (last_verdict (length t.steps) t.names o))
+      found None = refl
+      found (Some f) = refl
 
-      ranned : (x : Ran) → record { number = 0; line = 0 } ≡ refusal_in (trace_answer (ran_verdict (length t.steps) t.names s.goals x))
+      ranned : (x : Ran) → None ≡ refusal_in (traced_answer (ran_verdict (length t.steps) t.names s.goals x))
       ranned (broken number) = refl
-      ranned (ran last) = found (eqb (first_bad last s.goals).user 0) (first_bad last s.goals)
+      ranned (ran last) = found (first_bad last s.goals)
 
   told_place : {a : Answer} → Outcome policy evidence a → refusal_of policy evidence ≡ refusal_in a
   unfolding refusal_in told judged_answer trace_verdict
@@ -53,9 +50,9 @@ module _ (policy evidence : List ℕ) where
   told_place (typed {s = s} {t = t} reads over) =
       by_kind (typing_kind s.roles evidence over) ∙ sym (after_read true policy evidence reads) ∙ ap told over ∙ go (typing_verdict s (table_of t))
     where
-      go : (v : TypingVerdict) → record { number = 0; line = 0 } ≡ refusal_in (judged_answer (counts_of s) (table_of t) v)
-      go TypingVerdict.Accepted = refl
-      go (TypingVerdict.Fails part number) = refl
+      go : (v : TypingVerdict) → None ≡ refusal_in (judged_answer (counts_of s) (table_of t) v)
+      go (Ok _) = refl
+      go (Err failure) = refl
   told_place (traced {s = s} reads kind) =
       by_kind kind ∙ sym (after_read false policy evidence reads) ∙ trace_refusal s (read_trace (length s.assigns) (length s.revokes) s.users evidence)
 
@@ -65,5 +62,5 @@ module _ (policy evidence : List ℕ) where
 
   -- The bad line is that line of that text by which the answer refuses, and the empty part at the policy's start for a missing `end`
   -- and for every other answer.
-  pub bad_line_told : BadAt policy evidence (refusal_in (answer_of policy evidence)).number (refusal_in (answer_of policy evidence)).line (bad_place policy evidence) (bad_line policy evidence)
-  bad_line_told = subst (λ (r : Refusal). BadAt policy evidence r.number r.line (bad_place policy evidence) (bad_line policy evidence)) refused_place (bad_line_exact policy evidence)
+  pub bad_line_told : BadAt policy evidence (refusal_in (answer_of policy evidence)) (bad_place policy evidence) (bad_line policy evidence)
+  bad_line_told = subst (λ (r : Option Refusal). BadAt policy evidence r (bad_place policy evidence) (bad_line policy evidence)) refused_place (bad_line_exact policy evidence)

@@ -1,12 +1,13 @@
 -- The refusal of a policy and a piece of evidence is that of the answer of `check`, and so is their bad line.
+use Rattle.std.specs.Prelude.{Option, Some, None}
 use Rattle.answering.specs.declared.Answer.{Answer}
-use Rattle.places.specs.declared.Refusal.{Refusal}
+use Rattle.walking.specs.declared.Refusal.{Refusal}
 
--- The number and line of an answer that is a refusal; 0 and 0 of any other.
-unfoldable pub refusal_in : Answer → Refusal
-refusal_in (Answer.Safe roles assigns revokes goals pinned) = record { number = 0; line = 0 }
-refusal_in (Answer.Attacked steps user name goal) = record { number = 0; line = 0 }
-refusal_in (Answer.Unproved part number) = record { number = 0; line = 0 }
-refusal_in (Answer.Broken step) = record { number = 0; line = 0 }
-refusal_in (Answer.Short steps) = record { number = 0; line = 0 }
-refusal_in (Answer.Refused number line) = record { number = number; line = line }
+-- The refusal that an answer is; no other answer has any.
+unfoldable pub refusal_in : Answer → Option Refusal
+refusal_in (Answer.Safe roles assigns revokes goals pinned) = None
+refusal_in (Answer.Attacked steps user name goal) = None
+refusal_in (Answer.Unproved part number) = None
+refusal_in (Answer.Broken step) = None
+refusal_in (Answer.Short steps) = None
+refusal_in (Answer.Refused refusal) = Some refusal

@@ -1,6 +1,6 @@
 -- The place that is found by going from line to line is that of the piece between LFs.
 use Prim.Native.Nat.{ℕ, zero, suc, ◌+◌, ◌-◌, ◌≤◌, ◌<◌, zero-le}
-use Rattle.std.specs.Prelude.{true, List, [], ◌∷◌, ◌≡◌, length, get_or, drop}
+use Rattle.std.specs.Prelude.{Some, None, List, [], ◌∷◌, ◌≡◌, length, get_or, drop}
 use Rattle.std.proofs.Math.Path.{refl, subst, subst⁻¹}
 use Rattle.std.proofs.Common.{sym, ap, ◌∙◌, lt-ltb, le-ltb, drop-drop}
 use Rattle.std.proofs.Math.ListN.{take, length-drop}
@@ -11,7 +11,7 @@ use Rattle.text.specs.Index.{index_of}
 use Rattle.text.specs.Pieces.{split}
 use Rattle.text.specs.PieceLaws.{split_none, split_some, split_piece}
 use Rattle.walking.specs.Meaning.{LF}
-use Rattle.places.specs.Place.{no_span, span_of}
+use Rattle.places.specs.Place.{span_of}
 use Rattle.places.specs.PlaceLaws.{index_most}
 use Rattle.places.specs.BadLines.{line_at, bytes_in, start_of, HasLine, PastLast}
 
@@ -42,13 +42,13 @@ module _ (text : List ℕ) where
 
   -- The line so many lines on from a place is found where it begins, with its bytes.
   pub record Found (at k start : ℕ) (line : List ℕ) : Type 0 where
-    pub span : span_of text at k ≡ record { found = true; from = start; to = start + length line }
+    pub span : span_of text at k ≡ Some (record { from = start; to = start + length line })
     pub bytes : take (length line) (drop start text) ≡ line
 
   -- the line at the place itself, and one behind it
   found_here : (at : ℕ) (line : List ℕ) → at < length text → index_of LF (drop at text) ≡ length line → take (length line) (drop at text) ≡ line → Found at 0 at line
   unfolding span_of
-  found_here at line inside long bytes = record { span = rw (lt-ltb at (length text) inside) (λ i. record { found = true; from = at; to = at + long i }); bytes = bytes }
+  found_here at line inside long bytes = record { span = rw (lt-ltb at (length text) inside) (λ i. Some (record { from = at; to = at + long i })); bytes = bytes }
 
   found_on : {at k start : ℕ} {line : List ℕ} → stop at < length text → Found (stop at + 1) k start line → Found at (suc k) start line
   unfolding span_of
@@ -59,7 +59,7 @@ module _ (text : List ℕ) where
   Lines at k pieces = k < length pieces → (suc k ≡ length pieces → 0 < length (get_or pieces k [])) → Found at k (at + bytes_in (take k pieces)) (get_or pieces k [])
 
   abbrev NoLine : (at k : ℕ) (pieces : List (List ℕ)) → Type 0
-  NoLine at k pieces = suc k ≡ length pieces → length (get_or pieces k []) ≡ 0 → span_of text at k ≡ no_span
+  NoLine at k pieces = suc k ≡ length pieces → length (get_or pieces k []) ≡ 0 → span_of text at k ≡ None
 
   found : (k at : ℕ) {pieces : List (List ℕ)} → at ≤ length text → Cut at pieces → Lines at k pieces
   unfolding bytes_in
@@ -97,6 +97,6 @@ line_found n text has =
     (found text (n - 1) 0 zero-le (cut text 0) (omega (arith, has.from_one, has.within)) (λ end. has.filled (omega (arith, has.from_one))))
 
 -- None is found one past the last.
-pub past_lost : (n : ℕ) (text : List ℕ) → PastLast n text → span_of text 0 (n - 1) ≡ no_span
+pub past_lost : (n : ℕ) (text : List ℕ) → PastLast n text → span_of text 0 (n - 1) ≡ None
 unfolding line_at
 past_lost n text past = lost text (n - 1) 0 (cut text 0) (omega (arith, some_piece text, past.last)) past.empty

@@ -2,27 +2,21 @@
 #![tactic(auto)]
 
 ghost use Rattle.std.specs.Prelude.{◌≡◌, ◌-◌, ◌≤◌, length};
+ghost use Rattle.std.specs.Result.{result_err};
 ghost use Rattle.ledgers.specs.Ledger.{ledger_words};
 ghost use Rattle.ledgers.specs.Memory.{Spared};
-ghost use Rattle.places.specs.Place.{refusal_of, typing_refusal_of, no_span, span_of, bad_span, place_of, bytes_at, bad_place, bad_line, bad_typing_place, bad_typing_line, begins_at, lent_refusal, LineAt};
+ghost use Rattle.places.specs.Place.{refusal_of, typing_refusal_of, span_of, bad_span, place_of, bytes_at, bad_place, bad_line, bad_typing_place, bad_typing_line, begins_at, lent_refusal, LineAt};
 ghost use Rattle.places.specs.Answered.{refusal_in};
 
-use answering::{Answer, check, check_in};
-use ledgers::{NO_MEMORY, WORDS};
+use answering::{Answer, TOO_FEW_WORDS, check, check_in};
+use ledgers::WORDS;
 use reading::read_policy;
 use typings::read_typing;
+use walking::Refusal;
 
-// A refusal's number and line, both 0 where the texts are read.
-#[derive(Clone, Copy)]
-pub struct Refusal {
-    pub number: u64,
-    pub line: usize,
-}
-
-// A line of a text, from a place up to another; 0, 0 where there is no such line.
+// A line of a text, from a place up to another.
 #[derive(Clone, Copy)]
 pub struct Span {
-    pub found: bool,
     pub from: usize,
     pub to: usize,
 }
@@ -35,115 +29,95 @@ pub struct BadPlace {
     pub to: usize,
 }
 
-// The number and line of an answer that is a refusal; 0 and 0 of any other.
-fn refusal_in(answer: Answer) -> Refusal
+// The policy's start, where no line is bad.
+const NOWHERE: BadPlace = BadPlace {
+    evidence: false,
+    from: 0,
+    to: 0,
+};
+
+// The refusal of an answer that is one.
+fn refusal_in(answer: Answer) -> Option<Refusal>
     ensures { result ≡ refusal_in answer }
 {
     match answer {
-        Answer::Refused(number, line) => Refusal { number, line },
-        _ => Refusal { number: 0, line: 0 },
+        Answer::Refused(refusal) => Some(refusal),
+        _ => None,
     }
 }
 
 // The refusal of a policy and a piece of evidence: that of the answer to them.
-fn refusal_of(policy: &[u8], evidence: &[u8]) -> Refusal
+fn refusal_of(policy: &[u8], evidence: &[u8]) -> Option<Refusal>
     ensures { result ≡ refusal_of policy.now evidence.now }
 {
     refusal_in(check(policy, evidence))
 }
 
 // The same in lent memory.
-fn refusal_of_in(policy: &[u8], evidence: &[u8], memory: &mut [u64]) -> Refusal
+fn refusal_of_in(policy: &[u8], evidence: &[u8], memory: &mut [u64]) -> Option<Refusal>
     ensures value { result ≡ lent_refusal (length memory.old) (refusal_of policy.now evidence.now) }
     ensures spared { Spared ledger_words memory.old memory.new }
 {
     refusal_in(check_in(policy, evidence, memory))
 }
 
-// The refusal of a policy and a text where a typing is wanted, with a ledger to work in.
-fn typing_refusal_with(policy: &[u8], typing: &[u8], ledger: &mut [u64]) -> Refusal
+// A policy and a text where a typing is wanted, read with a ledger to work in, or refused.
+fn read_both(policy: &[u8], typing: &[u8], ledger: &mut [u64]) -> Result<(), Refusal>
     requires { ledger_words ≤ length ledger.old }
-    ensures { result ≡ typing_refusal_of policy.now typing.now }
+    ensures { result_err result ≡ typing_refusal_of policy.now typing.now }
 {
-    let p = read_policy(policy, ledger);
-    if p.refusal != 0 {
-        return Refusal {
-            number: p.refusal,
-            line: p.line,
-        };
-    }
-    let t = read_typing(typing, ledger, p.counts.roles);
-    Refusal {
-        number: t.refusal,
-        line: t.line,
-    }
+    let c = read_policy(policy, ledger)?;
+    read_typing(typing, ledger, c.roles)?;
+    Ok(())
 }
 
 // The refusal of a policy and a text where a typing is wanted.
-fn typing_refusal_of(policy: &[u8], typing: &[u8]) -> Refusal
+fn typing_refusal_of(policy: &[u8], typing: &[u8]) -> Option<Refusal>
     ensures { result ≡ typing_refusal_of policy.now typing.now }
 {
     let mut ledger = [0u64; WORDS];
-    typing_refusal_with(policy, typing, &mut ledger)
+    read_both(policy, typing, &mut ledger).err()
 }
 
 // The same in lent memory.
-fn typing_refusal_in(policy: &[u8], typing: &[u8], memory: &mut [u64]) -> Refusal
+fn typing_refusal_in(policy: &[u8], typing: &[u8], memory: &mut [u64]) -> Option<Refusal>
     ensures value { result ≡ lent_refusal (length memory.old) (typing_refusal_of policy.now typing.now) }
     ensures spared { Spared ledger_words memory.old memory.new }
 {
     if memory.len() < WORDS {
-        return Refusal {
-            number: NO_MEMORY,
-            line: 0,
-        };
+        return Some(TOO_FEW_WORDS);
     }
-    typing_refusal_with(policy, typing, &mut memory[..WORDS])
-}
-
-// No line.
-fn nowhere() -> Span
-    ensures { result ≡ no_span }
-{
-    Span {
-        found: false,
-        from: 0,
-        to: 0,
-    }
+    read_both(policy, typing, &mut memory[..WORDS]).err()
 }
 
 // Where the line of a number stands, without its LF.
-pub fn line_span(text: &[u8], number: usize) -> Span
+pub fn line_span(text: &[u8], number: usize) -> Option<Span>
     ensures { result ≡ span_of text.now 0 (number - 1) }
 {
     let end = text.len();
     let mut at = 0;
-    let mut left = number;
-    while 1 < left {
+    for _ in 1..number {
         let stop = text::seek(text, at, b'\n');
         if stop == end {
-            return nowhere();
+            return None;
         }
         at = stop + 1;
-        left -= 1;
     }
-    if at < end {
-        let stop = text::seek(text, at, b'\n');
-        return Span {
-            found: true,
-            from: at,
-            to: stop,
-        };
+    if at == end {
+        return None;
     }
-    nowhere()
+    Some(Span {
+        from: at,
+        to: text::seek(text, at, b'\n'),
+    })
 }
 
 // Where the bad line of a refusal stands in one of the two texts.
-fn bad_span(policy: &[u8], evidence: &[u8], r: Refusal) -> Span
+fn bad_span(policy: &[u8], evidence: &[u8], r: Refusal) -> Option<Span>
     ensures { result ≡ bad_span policy.now evidence.now r }
 {
     if (r.line == 0) | (16 < r.number) {
-        return nowhere();
+        return None;
     }
     if r.number < 14 {
         return line_span(policy, r.line);
@@ -152,14 +126,19 @@ fn bad_span(policy: &[u8], evidence: &[u8], r: Refusal) -> Span
 }
 
 // Which text the bad line of a refusal stands in, and where: nowhere, at the policy's start, where no line is bad.
-fn place_of(policy: &[u8], evidence: &[u8], r: Refusal) -> BadPlace
-    ensures { result ≡ place_of policy.now evidence.now r }
+fn place_of(policy: &[u8], evidence: &[u8], refusal: Option<Refusal>) -> BadPlace
+    ensures { result ≡ place_of policy.now evidence.now refusal }
 {
-    let s = bad_span(policy, evidence, r);
+    let Some(r) = refusal else {
+        return NOWHERE;
+    };
+    let Some(line) = bad_span(policy, evidence, r) else {
+        return NOWHERE;
+    };
     BadPlace {
-        evidence: s.found & (14 <= r.number),
-        from: s.from,
-        to: s.to,
+        evidence: 14 <= r.number,
+        from: line.from,
+        to: line.to,
     }
 }
 
@@ -193,11 +172,11 @@ pub fn bad_typing_place_in(policy: &[u8], typing: &[u8], memory: &mut [u64]) -> 
 }
 
 // The part of one of two texts at the place of the bad line of a refusal.
-fn line_of<'a>(policy: &'a [u8], evidence: &'a [u8], r: Refusal) -> &'a [u8]
-    ensures result_value { result.now ≡ bytes_at policy.now evidence.now (place_of policy.now evidence.now r) }
-    ensures ref_ptr_value { result.ref_ptr ≡ begins_at policy.entry.ref_ptr evidence.entry.ref_ptr (place_of policy.now evidence.now r) }
+fn line_of<'a>(policy: &'a [u8], evidence: &'a [u8], refusal: Option<Refusal>) -> &'a [u8]
+    ensures result_value { result.now ≡ bytes_at policy.now evidence.now (place_of policy.now evidence.now refusal) }
+    ensures ref_ptr_value { result.ref_ptr ≡ begins_at policy.entry.ref_ptr evidence.entry.ref_ptr (place_of policy.now evidence.now refusal) }
 {
-    let place = place_of(policy, evidence, r);
+    let place = place_of(policy, evidence, refusal);
     let from = place.from;
     let to = place.to;
     if place.evidence {

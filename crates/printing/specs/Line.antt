@@ -21,7 +21,7 @@ line_of (Answer.Attacked steps user name goal) = bytes "ATTACKED" ++ field (deci
 line_of (Answer.Unproved part number) = bytes "UNPROVED" ++ field (part_text part) ++ field (decimal number) ++ bytes "\n"
 line_of (Answer.Broken step) = bytes "BROKEN" ++ field (decimal step) ++ bytes "\n"
 line_of (Answer.Short steps) = bytes "SHORT" ++ field (decimal steps) ++ bytes "\n"
-line_of (Answer.Refused number line) = bytes "REFUSED" ++ field (decimal number) ++ field (decimal line) ++ bytes "\n"
+line_of (Answer.Refused refusal) = bytes "REFUSED" ++ field (decimal refusal.number) ++ field (decimal refusal.line) ++ bytes "\n"
 
 -- The line that `check` prints for two texts.
 unfoldable pub check_line : (policy evidence : List ℕ) → List ℕ

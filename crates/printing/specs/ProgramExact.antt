@@ -16,7 +16,7 @@ answered (Answer.Attacked steps user name goal) same = omega (arith, same)
 answered (Answer.Unproved part number) same = omega (arith, same)
 answered (Answer.Broken step) same = omega (arith, same)
 answered (Answer.Short steps) same = omega (arith, same)
-answered (Answer.Refused number line) same = omega (arith, same)
+answered (Answer.Refused refusal) same = omega (arith, same)
 
 checked : (policy evidence name : List ℕ) → check_line policy evidence ≡ no_file name → ⊥
 unfolding check_line no_file

@@ -29,17 +29,25 @@ fn attacked_line(out: &mut [u8], steps: usize, name: Name, goal: usize) -> usize
     end_line(out, last)
 }
 
+// The words of UNPROVED, with the part of the first failure.
+#[tactic(auto, unfolding(crate::specs::Line::part_text, showing::specs::Fields::field))]
+fn unproved_words(part: Part) -> &'static [u8]
+    ensures { result.now ≡ bytes "UNPROVED" ++ field (part_text part) }
+{
+    match part {
+        Part::Holdings => b"UNPROVED\tholdings",
+        Part::Assign => b"UNPROVED\tassign",
+        Part::Revoke => b"UNPROVED\trevoke",
+        Part::Goal => b"UNPROVED\tgoal",
+    }
+}
+
 // Begins the line of UNPROVED: the part and the number of the first failure.
 pub fn begin_unproved(out: &mut [u8], part: Part, number: usize) -> usize
     requires { 41 ≤ length out.old }
     ensures { Line (bytes "UNPROVED" ++ field (part_text part) ++ field (decimal number)) 41 out.old result out.new }
 {
-    match part {
-        Part::Holdings => begin_line(out, b"UNPROVED\tholdings", &[number as u64]),
-        Part::Assign => begin_line(out, b"UNPROVED\tassign", &[number as u64]),
-        Part::Revoke => begin_line(out, b"UNPROVED\trevoke", &[number as u64]),
-        Part::Goal => begin_line(out, b"UNPROVED\tgoal", &[number as u64]),
-    }
+    begin_line(out, unproved_words(part), &[number as u64])
 }
 
 // Writes the line of UNPROVED.
@@ -52,6 +60,7 @@ fn unproved_line(out: &mut [u8], part: Part, number: usize) -> usize
 }
 
 // Writes the line of an answer.
+#[tactic(auto, using(crate::specs::LineSteps::known_line), unfolding(crate::specs::Line::line_of, showing::specs::Fields::fields_on))]
 fn write_line(out: &mut [u8], answer: Answer) -> usize
     requires { 128 ≤ length out.old }
     ensures { Line (line_of answer) 128 out.old result out.new }
@@ -72,7 +81,9 @@ fn write_line(out: &mut [u8], answer: Answer) -> usize
         Answer::Unproved(part, number) => unproved_line(out, part, number),
         Answer::Broken(step) => number_line(out, b"BROKEN", &[step as u64]),
         Answer::Short(steps) => number_line(out, b"SHORT", &[steps as u64]),
-        Answer::Refused(number, line) => number_line(out, b"REFUSED", &[number, line as u64]),
+        Answer::Refused(refusal) => {
+            number_line(out, b"REFUSED", &[refusal.number, refusal.line as u64])
+        }
     }
 }
 

@@ -1,5 +1,5 @@
 -- What holds between two lines while a policy text is read: the ledger says what the lines so far say, and the rest decides.
-use Rattle.std.specs.Prelude.{ℕ, ◌+◌, ◌≤◌, ◌<◌, false, List, ◌≡◌, eqb, length}
+use Rattle.std.specs.Prelude.{ℕ, ◌+◌, ◌≤◌, ◌<◌, false, List, Result, Ok, Err, ◌≡◌, eqb, length}
 use Rattle.std.proofs.Common.{true≢false, ◌∙◌}
 use Rattle.std.proofs.Math.Path.{refl, sym, ap, subst, subst⁻¹}
 use Rattle.ledgers.specs.Parts.{rows_from, rows_in}
@@ -7,14 +7,15 @@ use Rattle.ledgers.specs.Ledger.{ledger_words}
 use Rattle.text.specs.Pieces.{split, part, Sought}
 use Rattle.lines.specs.declared.Counts.{Counts}
 use Rattle.lines.specs.declared.Entry.{Entry}
-use Rattle.lines.specs.declared.PolicyLine.{PolicyLine}
+use Rattle.walking.specs.declared.Fault.{Fault}
+use Rattle.walking.specs.Faults.{policy_number}
 use Rattle.lines.specs.Lines.{line_of, end_kind}
 use Rattle.lines.specs.LineLaws.{GoodLine, Fitting, good_fits}
 use Rattle.walking.specs.Texts.{Judged, read, refused}
 use Rattle.walking.specs.Walk.{On, on_start, on_end, on_tail, on_bad, on_goes, on_last, on_more}
-use Rattle.reading.specs.declared.PolicyRead.{PolicyRead}
+use Rattle.walking.specs.declared.Refusal.{Refusal}
 use Rattle.reading.specs.Policy.{Said, nothing, counts_of, kind_of, added, leads, judge_line, read_policy}
-use Rattle.reading.specs.Read.{refused_read, answer_read, ReadInto}
+use Rattle.reading.specs.Read.{answer_read, ReadInto}
 use Rattle.reading.specs.Answer.{line_answer, leads_to, judge_answered, answer_good}
 use Rattle.reading.specs.Sound.{Sound, line_sound, nothing_sound}
 use Rattle.reading.specs.Ledger.{ledger_says, Limited}
@@ -49,17 +50,17 @@ module _ {text : List ℕ} {at number : ℕ} {words : List ℕ} {c : Counts} (b 
     unfolding read_policy
     between_tail last = on_tail judge_line 11 10 nothing b.on sought last
 
-    module _ (here : stop < length text) {answer : PolicyLine} (given : answer ≡ line_answer said (part text at stop)) where
+    module _ (here : stop < length text) {answer : Result Entry Fault} (given : answer ≡ line_answer said (part text at stop)) where
       -- what the line leads to
       judged_is : {judged : Judged Said} → leads_to said answer ≡ judged → judge_line said (part text at stop) ≡ judged
       judged_is is = judge_answered said (part text at stop) ∙ ap (leads_to said) (sym given) ∙ is
 
       -- a line that is not good
-      pub between_bad : {k : ℕ} → answer ≡ PolicyLine.Bad k → read_policy text ≡ refused k number
+      pub between_bad : {fault : Fault} → answer ≡ Err fault → read_policy text ≡ refused (policy_number fault) number
       unfolding read_policy leads_to
       between_bad bad_line_lem = on_bad judge_line 11 10 nothing b.on sought here (judged_is (ap (leads_to said) bad_line_lem))
 
-      module _ {e : Entry} (good : answer ≡ PolicyLine.Good e) where
+      module _ {e : Entry} (good : answer ≡ Ok e) where
         -- it is good over what the lines above say, and there is room for its entry
         good_here : GoodLine (counts_of said) said.roles said.users (line_of (split 9 (part text at stop))) e
         good_here = answer_good said (part text at stop) (sym given ∙ good)
@@ -78,7 +79,7 @@ module _ {text : List ℕ} {at number : ℕ} {words : List ℕ} {c : Counts} (b 
         }
 
       -- the last line, and bytes after it
-      module _ (ending : answer ≡ PolicyLine.Good Entry.End) where
+      module _ (ending : answer ≡ Ok Entry.End) where
         pub between_last : length text ≤ stop + 1 → read_policy text ≡ read said
         unfolding read_policy leads_to leads kind_of
         between_last all = on_last judge_line 11 10 nothing b.on sought here (judged_is (ap (leads_to said) ending)) all
@@ -89,16 +90,16 @@ module _ {text : List ℕ} {at number : ℕ} {words : List ℕ} {c : Counts} (b 
 
 -- ---- what is answered
 
-module _ {text : List ℕ} {answer : PolicyRead} {words : List ℕ} where
+module _ {text : List ℕ} {answer : Result Counts Refusal} {words : List ℕ} where
   -- the text is refused
-  pub into_refused : {number line : ℕ} → read_policy text ≡ refused number line → answer ≡ refused_read number line → ReadInto text answer words
+  pub into_refused : {number line : ℕ} → read_policy text ≡ refused number line → answer ≡ Err (record { number = number; line = line }) → ReadInto text answer words
   unfolding answer_read
   into_refused is given = record { answers = given ∙ sym (ap answer_read is); says = λ s told. absurd (true≢false (cc)) }
 
   -- the text is read
-  pub into_read : {c : Counts} → read_policy text ≡ read (ledger_says words c) → answer ≡ record { refusal = 0; line = 0; counts = c } → ReadInto text answer words
+  pub into_read : {c : Counts} → read_policy text ≡ read (ledger_says words c) → answer ≡ Ok c → ReadInto text answer words
   unfolding answer_read
   into_read {c} is given = record {
-    answers = given ∙ ap (λ (d : Counts). record { refusal = 0; line = 0; counts = d }) (sym (ledger_counts words c)) ∙ sym (ap answer_read is);
+    answers = given ∙ ap Ok (sym (ledger_counts words c)) ∙ sym (ap answer_read is);
     says = λ s told. let same : ledger_says words c ≡ s = cc in ap (λ (t : Said). ledger_says words (counts_of t)) (sym same) ∙ ap (ledger_says words) (ledger_counts words c) ∙ same;
   }

@@ -1,5 +1,5 @@
 -- A ledger says as much as its counts tell, and a line is judged over what it says.
-use Rattle.std.specs.Prelude.{ℕ, ◌-◌, Bool, ◌≡◌, length, take, drop}
+use Rattle.std.specs.Prelude.{ℕ, ◌-◌, Bool, Result, Ok, Err, ◌≡◌, length, take, drop}
 use Rattle.std.proofs.Math.Bool.{cond}
 use mathlib.Core.List.{List}
 use Rattle.std.proofs.Math.Path.{sym, ap, ap₂}
@@ -12,7 +12,7 @@ use Rattle.ledgers.specs.PartLaws.{rows_length}
 use Rattle.ledgers.specs.Ledger.{role_names, user_names, people, assign_rules, revoke_rules, goal_sets}
 use Rattle.ledgers.specs.LedgerLaws.{roles-rows, users_lent}
 use Rattle.lines.specs.declared.Entry.{Entry}
-use Rattle.lines.specs.declared.PolicyLine.{PolicyLine}
+use Rattle.walking.specs.declared.Fault.{Fault}
 use Rattle.lines.specs.Lines.{policy_line}
 use Rattle.lines.specs.LineLaws.{Fitting, good_fits, line_good}
 use Rattle.lines.specs.declared.Counts.{Counts}
@@ -45,7 +45,7 @@ counts_limited {s} {c} is sound = record {
 
 -- ---- a line over what a ledger says
 
-module _ (words : List ℕ) (c : Counts) (line : List ℕ) {answer : PolicyLine} (given : answer ≡ policy_line c (rows c.roles words) (rows c.users (take (length words - 512) (drop 512 words))) line) where
+module _ (words : List ℕ) (c : Counts) (line : List ℕ) {answer : Result Entry Fault} (given : answer ≡ policy_line c (rows c.roles words) (rows c.users (take (length words - 512) (drop 512 words))) line) where
   -- the tables of names are the names that it says
   said_line : answer ≡ policy_line (counts_of (ledger_says words c)) (ledger_says words c).roles (ledger_says words c).users line
   unfolding ledger_says
@@ -58,20 +58,20 @@ module _ (words : List ℕ) (c : Counts) (line : List ℕ) {answer : PolicyLine}
   line_over = ap (once (ledger_says words c).holdings) said_line
 
   -- a line that is not good
-  pub line_bad : {number : ℕ} → answer ≡ PolicyLine.Bad number → answer ≡ line_answer (ledger_says words c) line
+  pub line_bad : {fault : Fault} → answer ≡ Err fault → Err fault ≡ line_answer (ledger_says words c) line
   unfolding once
-  line_bad bad = bad ∙ sym (ap (once (ledger_says words c).holdings) bad) ∙ line_over
+  line_bad bad = sym (ap (once (ledger_says words c).holdings) bad) ∙ line_over
 
-  module _ {e : Entry} (good : answer ≡ PolicyLine.Good e) where
+  module _ {e : Entry} (good : answer ≡ Ok e) where
     -- there is room for the entry of a good one
     pub line_fits : Fitting c e
     line_fits = good_fits (rows-many c.users _) (line_good c _ _ line (sym given ∙ good))
 
     -- it is new, or stands above already
     module _ {new : Bool} (is : new ≡ is_new (rows_in people words c.users) e) where
-      once_as : once (ledger_says words c).holdings (PolicyLine.Good e) ≡ cond new (PolicyLine.Good e) (PolicyLine.Bad 11)
+      once_as : once (ledger_says words c).holdings (Ok e) ≡ cond new (Ok e) (Err Fault.Malformed)
       unfolding once ledger_says
-      once_as = ap (λ (b : Bool). cond b (PolicyLine.Good e) (PolicyLine.Bad 11)) (sym is)
+      once_as = ap (λ (b : Bool). cond b (Ok e) (Err Fault.Malformed)) (sym is)
 
-      pub line_once : cond new (PolicyLine.Good e) (PolicyLine.Bad 11) ≡ line_answer (ledger_says words c) line
+      pub line_once : cond new (Ok e) (Err Fault.Malformed) ≡ line_answer (ledger_says words c) line
       line_once = sym once_as ∙ sym (ap (once (ledger_says words c).holdings) good) ∙ line_over

@@ -1,19 +1,17 @@
 -- What the answer of reading a policy tells: a refusal, or what the ledger says.
-use Rattle.std.specs.Prelude.{ℕ, List, ◌≡◌}
+use Rattle.std.specs.Prelude.{ℕ, List, Result, Ok, Err, ◌≡◌}
 use Rattle.std.proofs.Math.Path.{refl, sym, ap}
-use Rattle.std.proofs.Common.{ap₂, ◌∙◌, arith}
+use Rattle.std.proofs.Common.{true≢false, ◌∙◌}
 use Rattle.tables.specs.Names.{rows}
 use Rattle.ledgers.specs.LedgerLaws.{roles-rows}
 use Rattle.lines.specs.declared.Counts.{Counts}
 use Rattle.walking.specs.Texts.{Reading, read, refused}
-use Rattle.reading.specs.declared.PolicyRead.{PolicyRead}
+use Rattle.walking.specs.declared.Refusal.{Refusal}
 use Rattle.reading.specs.Policy.{Said, counts_of, read_policy}
-use Rattle.reading.specs.Read.{refused_read, answer_read, ReadInto}
+use Rattle.reading.specs.Read.{answer_read, ReadInto}
 use Rattle.reading.specs.Ledger.{ledger_says, Limited}
 use Rattle.reading.specs.LedgerLaws.{counts_limited}
 use Rattle.reading.specs.Sound.{Sound, read_sound}
-use Rattle.reading.specs.PolicyRefusals.{PolicyRefusal}
-use Rattle.reading.specs.PolicyExact.{policy_refusal_exact}
 
 -- The text is read: the ledger says what it says, and the counts are within the limits.
 pub record Told (text : List ℕ) (c : Counts) (words : List ℕ) : Type 0 where
@@ -24,35 +22,28 @@ pub record Told (text : List ℕ) (c : Counts) (words : List ℕ) : Type 0 where
   pub sound : Sound said
   pub limited : Limited c
 
--- no refusal has the number 0
-refusal_number : {text : List ℕ} {k n : ℕ} → PolicyRefusal text k n → k ≡ 0 → ⊥
-refusal_number (PolicyRefusal.too_long long) e = omega arith
-refusal_number (PolicyRefusal.malformed at bad) e = omega arith
-refusal_number (PolicyRefusal.above_limit at bad) e = omega arith
-refusal_number (PolicyRefusal.undeclared at bad) e = omega arith
-refusal_number (PolicyRefusal.no_end fits above tail) e = omega arith
-refusal_number (PolicyRefusal.after_end at ends) e = omega arith
-
-module _ {text : List ℕ} {answer : PolicyRead} {words : List ℕ} (into : ReadInto text answer words) where
+module _ {text : List ℕ} {answer : Result Counts Refusal} {words : List ℕ} (into : ReadInto text answer words) where
   -- a refusal is that of the text
-  pub untold : (answer.refusal ≡ 0 → ⊥) → read_policy text ≡ refused answer.refusal answer.line
-  unfolding answer_read refused_read
-  untold some = go (read_policy text) refl into.answers
+  pub untold : {refusal : Refusal} → answer ≡ Err refusal → read_policy text ≡ refused refusal.number refusal.line
+  unfolding answer_read
+  untold {refusal} none = go (read_policy text) refl (sym none ∙ into.answers)
     where
-      go : (r : Reading Said) → read_policy text ≡ r → answer ≡ answer_read r → read_policy text ≡ refused answer.refusal answer.line
-      go (read s) is given = absurd (some (ap (λ (a : PolicyRead). a.refusal) given))
-      go (refused k n) is given = is ∙ sym (ap₂ refused (ap (λ (a : PolicyRead). a.refusal) given) (ap (λ (a : PolicyRead). a.line) given))
+      go : (r : Reading Said) → read_policy text ≡ r → Err refusal ≡ answer_read r → read_policy text ≡ refused refusal.number refusal.line
+      go (read s) is given = absurd (true≢false (cc))
+      go (refused k n) is given =
+          let same : refusal ≡ record { number = k; line = n } = cc in
+          is ∙ sym (ap (λ (r : Refusal). refused r.number r.line) same)
 
   -- no refusal
-  pub told : answer.refusal ≡ 0 → Told text answer.counts words
-  unfolding answer_read refused_read
-  told none = go (read_policy text) refl into.answers
+  pub told : {c : Counts} → answer ≡ Ok c → Told text c words
+  unfolding answer_read
+  told {c} some = go (read_policy text) refl (sym some ∙ into.answers)
     where
-      go : (r : Reading Said) → read_policy text ≡ r → answer ≡ answer_read r → Told text answer.counts words
+      go : (r : Reading Said) → read_policy text ≡ r → Ok c ≡ answer_read r → Told text c words
       go (read s) is given =
-          let counted : answer.counts ≡ counts_of s = ap (λ (a : PolicyRead). a.counts) given in
+          let counted : c ≡ counts_of s = cc in
           record { said = s; is = is; says = ap (ledger_says words) counted ∙ into.says s is; counts = counted; sound = read_sound text is; limited = counts_limited counted (read_sound text is) }
-      go (refused k n) is given = absurd (refusal_number ((policy_refusal_exact text k n).0 is) (sym (ap (λ (a : PolicyRead). a.refusal) given) ∙ none))
+      go (refused k n) is given = absurd (true≢false (cc))
 
 -- the table of role names gives the names back
 pub roles-told : {text : List ℕ} {c : Counts} {words : List ℕ} (t : Told text c words) → rows c.roles words ≡ t.said.roles

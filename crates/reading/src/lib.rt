@@ -3,37 +3,16 @@
 
 ghost use Rattle.std.specs.Prelude.{◌≡◌, ◌≤◌, length};
 ghost use Rattle.ledgers.specs.Ledger.{ledger_words};
-ghost use Rattle.lines.specs.Lines.{code_of};
 ghost use Rattle.reading.specs.Answer.{line_answer};
 ghost use Rattle.reading.specs.Policy.{counts_of, nothing};
 ghost use Rattle.reading.specs.Ledger.{Limited, ledger_says};
-ghost use Rattle.reading.specs.Read.{ReadInto, refused_read};
+ghost use Rattle.reading.specs.Read.{ReadInto};
 
 use crate::entering::{enter, is_new};
-use lines::{Counts, Entry, PolicyLine};
+use lines::{Counts, Entry};
+use walking::{Fault, Refusal, pass};
 
 pub mod entering;
-
-// What reading a policy text answers: the refusal's number and line, 0 and 0 where the text is read, and the counts of the policy,
-// which are those of no lines where the text is refused.
-#[derive(Clone, Copy)]
-pub struct PolicyRead {
-    pub refusal: u64,
-    pub line: usize,
-    pub counts: Counts,
-}
-
-// A refusal.
-fn refused(refusal: u64, line: usize) -> PolicyRead
-    ensures { result ≡ refused_read refusal line }
-{
-    let counts = none();
-    PolicyRead {
-        refusal,
-        line,
-        counts,
-    }
-}
 
 // The counts of no lines.
 fn none() -> Counts
@@ -49,42 +28,31 @@ fn none() -> Counts
     }
 }
 
-// The refusal's number of a line that is not good.
-fn code(answer: PolicyLine) -> u64
-    ensures { result ≡ code_of answer }
-{
-    match answer {
-        PolicyLine::Good(_) => 0,
-        PolicyLine::Bad(number) => number,
-    }
-}
-
 // One line, judged on its own bytes and on what the ledger says of the lines above it.
-fn read_line(line: &[u8], ledger: &[u64], c: Counts) -> PolicyLine
+fn read_line(line: &[u8], ledger: &[u64], c: Counts) -> Result<Entry, Fault>
     requires { (length line.now ≤ 32768) × (ledger_words ≤ length ledger.now) × Limited c }
     ensures { result ≡ line_answer (ledger_says ledger.now c) line.now }
 {
-    let answer = lines::read_line(line, ledger, &ledger[ledgers::USERS..], c);
-    let PolicyLine::Good(entry) = answer else {
-        return answer;
-    };
-    if is_new(ledger, c, entry) {
-        return answer;
-    }
-    PolicyLine::Bad(11)
+    let entry = lines::read_line(line, ledger, &ledger[ledgers::USERS..], c)?;
+    pass(is_new(ledger, c, entry), Fault::Malformed)?;
+    Ok(entry)
 }
 
-// A policy text. The first bad line decides the refusal; one without the header is refused with no look at the rest.
-pub fn read_policy(text: &[u8], ledger: &mut [u64]) -> PolicyRead
+// A policy text: the counts of the policy, or the refusal. The first bad line decides the refusal; a text without the header is
+// refused with no look at the rest.
+pub fn read_policy(text: &[u8], ledger: &mut [u64]) -> Result<Counts, Refusal>
     requires { ledger_words ≤ length ledger.old }
     ensures { ReadInto text.now result ledger.new }
 {
     let end = text.len();
     if 32768 < end {
-        return refused(10, 0);
+        return Err(Refusal {
+            number: 10,
+            line: 0,
+        });
     }
     if !text::begins_with(text, b"arbac\t1\n") {
-        return refused(11, 1);
+        return Err(Fault::Malformed.in_policy(1));
     }
     let mut c = none();
     let mut at = 0;
@@ -92,30 +60,27 @@ pub fn read_policy(text: &[u8], ledger: &mut [u64]) -> PolicyRead
     while at < end {
         let stop = text::seek(text, at, b'\n');
         if stop == end {
-            return refused(11, number);
+            return Err(Fault::Malformed.in_policy(number));
         }
         let answer = read_line(&text[at..stop], ledger, c);
         let here = number;
         at = stop + 1;
         number += 1;
-        let PolicyLine::Good(entry) = answer else {
-            return refused(code(answer), here);
+        // Document 01: `let else` takes the line's answer apart, and a refusal is returned at once.
+        let Ok(entry) = answer else {
+            return Err(answer.unwrap_err().in_policy(here));
         };
         match entry {
             Entry::End => {
                 if at < end {
-                    return refused(11, number);
+                    return Err(Fault::Malformed.in_policy(number));
                 }
-                return PolicyRead {
-                    refusal: 0,
-                    line: 0,
-                    counts: c,
-                };
+                return Ok(c);
             }
             _ => {
                 c = enter(ledger, c, entry);
             }
         }
     }
-    refused(11, number)
+    Err(Fault::Malformed.in_policy(number))
 }

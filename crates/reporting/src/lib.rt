@@ -7,7 +7,7 @@ ghost use Rattle.reporting.specs.Report.{first_missing, sum_report, merge_report
 
 use merging::MergeAnswer;
 use merging::merge::merge;
-use summing::{SumAnswer, sum};
+use summing::sum;
 use wording::{Mention, show, show_unproved};
 
 // How long the text is that was made, and how long the line; 0 where there is none.
@@ -17,29 +17,24 @@ pub struct Report {
     pub line: usize,
 }
 
-// Which of four files is the first that can't be read, from 1; 0 where all of them can.
-pub fn first_missing(one: bool, two: bool, three: bool, four: bool) -> usize
+// Which of four files is the first that can't be read, from 1; none where all of them can.
+#[tactic(auto, unfolding(crate::specs::Report::first_missing))]
+pub fn first_missing(one: bool, two: bool, three: bool, four: bool) -> Option<usize>
     ensures { result ≡ first_missing one two three four }
 {
-    if !one {
-        return 1;
+    match (one, two, three, four) {
+        (false, _, _, _) => Some(1),
+        (true, false, _, _) => Some(2),
+        (true, true, false, _) => Some(3),
+        (true, true, true, false) => Some(4),
+        (true, true, true, true) => None,
     }
-    if !two {
-        return 2;
-    }
-    if !three {
-        return 3;
-    }
-    if !four {
-        return 4;
-    }
-    0
 }
 
-// Makes what `sum` makes of three files, of which the first that can't be read is given by its number, 0 where all of them can: the text
-// of the sum, and the line of the answer.
+// Makes what `sum` makes of three files, of which the first that can't be read is given by its number, if there is one: the text of the
+// sum, and the line of the answer.
 pub fn sum_report(
-    missing: usize,
+    missing: Option<usize>,
     policy: &[u8],
     first: &[u8],
     second: &[u8],
@@ -49,31 +44,31 @@ pub fn sum_report(
     ensures reports { Reports (sum_report missing policy.now first.now second.now (length out.old)) out.old line.old result.text result.line out.new line.new }
     ensures prefix_len { IsPrefixLen result.text out.new × IsPrefixLen result.line line.new }
 {
-    if missing != 0 {
+    if let Some(which) = missing {
         return Report {
             text: 0,
-            line: show(line, b"NOFILE", &[], Mention::SumText, missing),
+            line: show(line, b"NOFILE", &[], Mention::SumText, which),
         };
     }
     match sum(policy, first, second, out) {
-        SumAnswer::Summed(pinned, length) => Report {
-            text: length,
+        Ok(summed) => Report {
+            text: summed.length,
             line: show(
                 line,
                 b"SUMMED",
-                &[pinned as u64, length as u64],
+                &[summed.pinned as u64, summed.length as u64],
                 Mention::SumText,
                 0,
             ),
         },
-        SumAnswer::Refused(which, number, place) => Report {
+        Err(refused) => Report {
             text: 0,
             line: show(
                 line,
                 b"REFUSED",
-                &[number, place as u64],
+                &[refused.refusal.number, refused.refusal.line as u64],
                 Mention::SumText,
-                which,
+                refused.text,
             ),
         },
     }
@@ -81,7 +76,7 @@ pub fn sum_report(
 
 // The same of `merge` and four files.
 pub fn merge_report(
-    missing: usize,
+    missing: Option<usize>,
     policy_1: &[u8],
     typing_1: &[u8],
     policy_2: &[u8],
@@ -92,10 +87,10 @@ pub fn merge_report(
     ensures reports { Reports (merge_report missing policy_1.now typing_1.now policy_2.now typing_2.now (length out.old)) out.old line.old result.text result.line out.new line.new }
     ensures prefix_len { IsPrefixLen result.text out.new × IsPrefixLen result.line line.new }
 {
-    if missing != 0 {
+    if let Some(which) = missing {
         return Report {
             text: 0,
-            line: show(line, b"NOFILE", &[], Mention::MergeText, missing),
+            line: show(line, b"NOFILE", &[], Mention::MergeText, which),
         };
     }
     match merge(policy_1, typing_1, policy_2, typing_2, out) {
@@ -116,16 +111,16 @@ pub fn merge_report(
                 0,
             ),
         },
-        MergeAnswer::Unproved(which, part, number) => Report {
+        MergeAnswer::Unproved(which, failure) => Report {
             text: 0,
-            line: show_unproved(line, which, part, number),
+            line: show_unproved(line, which, failure.part, failure.number),
         },
-        MergeAnswer::Refused(which, number, place) => Report {
+        MergeAnswer::Refused(which, refusal) => Report {
             text: 0,
             line: show(
                 line,
                 b"REFUSED",
-                &[number, place as u64],
+                &[refusal.number, refusal.line as u64],
                 Mention::MergeText,
                 which,
             ),

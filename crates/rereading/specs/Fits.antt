@@ -1,5 +1,5 @@
 -- A typing that is read has a row for each role, and its sets have only declared roles.
-use Rattle.std.specs.Prelude.{ℕ, suc, ◌+◌, true, ◌&&◌, ◌≡◌, eqb, length}
+use Rattle.std.specs.Prelude.{ℕ, suc, ◌+◌, true, ◌&&◌, ◌≡◌, eqb, length, Result}
 use Rattle.std.proofs.Math.Bool.{and-eq-true_iff}
 use Rattle.std.proofs.lemmas.Bool.{false≢true}
 use mathlib.Core.List.Memᴰ.{not-nil}
@@ -11,10 +11,11 @@ use Rattle.text.specs.Pieces.{split}
 use Rattle.walking.specs.Texts.{Judged, goes, ends, bad, read}
 use Rattle.fields.specs.Fields.{placed, all_declared}
 use Rattle.fields.specs.Roles.{Inside, roles_inside}
-use Rattle.walking.specs.TurnLaws.{turn_cases}
 use Rattle.walking.specs.Kept.{text_keeps}
 use Rattle.walking.specs.MeaningLaws.{read_exact}
-use Rattle.typings.specs.declared.TypingLine.{TypingLine}
+use Rattle.walking.specs.declared.Fault.{Fault}
+use Rattle.typings.specs.declared.TypingEntry.{TypingEntry}
+use Rattle.typings.specs.TypingLineLaws.{tested_cases}
 use Rattle.typings.specs.TypingLines.{Line, header, row, end, other, line_of, well_formed, named, entry, judged, typing_line}
 use Rattle.typings.specs.TypingText.{Typed, untyped, added, answered, judge_line, read_typing}
 use Rattle.text.specs.Lists.{each_more}
@@ -73,7 +74,7 @@ entry_means names s other sets formed known = absurd (other_bad s.stage (length 
 line_means : (names : List Name) (s : Typed) (line : List ℕ) → Sets (length names) s → Means (length names) s (judge_line names s line)
 unfolding judge_line answered typing_line judged
 line_means names s line sets =
-    turn_cases (λ (a : TypingLine). Means (length names) s (answered s a)) TypingLine.Bad _ _ (λ k f. tt) (λ passed. entry_means names s (line_of (split 9 line)) sets passed.0 passed.1.0)
+    tested_cases (λ (a : Result TypingEntry Fault). Means (length names) s (answered s a)) _ _ _ (λ fault. tt) (λ formed known. entry_means names s (line_of (split 9 line)) sets formed known)
 
 -- ---- the typing that is read
 

@@ -1,5 +1,5 @@
 -- The lines of a typing that is written: the header, a row and `end`, each judged as what it was written from.
-use Rattle.std.specs.Prelude.{ℕ, suc, ◌+◌, ◌<◌, Bool, true, false, cond, ◌||◌, List, [], ◌∷◌, ◌++◌, ◌≡◌, refl, length}
+use Rattle.std.specs.Prelude.{ℕ, suc, ◌+◌, ◌<◌, Bool, true, false, cond, ◌||◌, List, [], ◌∷◌, ◌++◌, ◌≡◌, refl, length, Ok}
 use Rattle.std.proofs.lemmas.Bool.{false≢true}
 use Rattle.std.proofs.Common.{append_assoc, sym, ap, ◌∙◌, add-one, arith}
 use borrow.Author.Tests.{le-leb, eq-eqb}
@@ -13,9 +13,6 @@ use Rattle.fields.specs.Fields.{placed}
 use Rattle.writing.specs.Written.{spelled}
 use Rattle.spelling.specs.TypingText.{set_text, label_text}
 use Rattle.typings.specs.declared.TypingEntry.{TypingEntry}
-use Rattle.typings.specs.declared.TypingLine.{TypingLine}
-use Rattle.walking.specs.Turns.{in_turn}
-use Rattle.walking.specs.TurnLaws.{turn_passes}
 use Rattle.typings.specs.TypingLines.{row, one_field, two_fields, line_of, well_formed, named, entry, judged, typing_line}
 use Rattle.rereading.specs.Cuts.{free, cut_first, cut_last, free_join, free_name}
 use Rattle.rereading.specs.Joined.{Apart}
@@ -78,14 +75,14 @@ label_same label is = go (same_bytes label (bytes "L")) (same_bytes label (bytes
 -- ---- the header and the end
 
 -- The header is good before the first line,
-pub header_good : (names : List Name) → typing_line 0 names (bytes "typing\t1") ≡ TypingLine.Good TypingEntry.Header
-unfolding typing_line judged line_of split onto two_fields same_bytes well_formed named entry in_turn
+pub header_good : (names : List Name) → typing_line 0 names (bytes "typing\t1") ≡ Ok TypingEntry.Header
+unfolding typing_line judged line_of split onto two_fields same_bytes well_formed named entry
 header_good names = refl
 
 -- and `end` after a row for each name.
-pub end_good : (names : List Name) → typing_line (suc (length names)) names (bytes "end") ≡ TypingLine.Good TypingEntry.End
+pub end_good : (names : List Name) → typing_line (suc (length names)) names (bytes "end") ≡ Ok TypingEntry.End
 unfolding typing_line judged line_of split onto one_field same_bytes well_formed named entry
-end_good names = turn_passes TypingLine.Bad _ _ (eq-eqb (suc (length names)) (length names + 1) (sym (add-one (length names))), (refl, tt))
+end_good names = rw (eq-eqb (suc (length names)) (length names + 1) (sym (add-one (length names))))
 
 -- ---- the row
 
@@ -127,7 +124,7 @@ module _ {names : List Name} (all : Named names) {name : Name} (spelt : Spelt na
 
   -- It is good at its role's place, and says what it was written from.
   pub row_good : {role : ℕ} → role < length names → place_of names name ≡ role → Inside (length names) plus → Inside (length names) minus
-      → typing_line (suc role) names (line_text names name label plus minus) ≡ TypingLine.Good (TypingEntry.Row label plus minus)
-  unfolding typing_line judged line_of entry in_turn
+      → typing_line (suc role) names (line_text names name label plus minus) ≡ Ok (TypingEntry.Row label plus minus)
+  unfolding typing_line judged line_of entry
   row_good {role} here at inside_plus inside_minus =
       rw (line_fields, row_formed here, row_named at, label_back label, set_back all plus inside_plus, set_back all minus inside_minus)

@@ -4,3 +4,4 @@ pub mod Words
 pub mod Members
 pub mod MemberLaws
 pub mod Joined
+pub mod Taking

@@ -1,5 +1,5 @@
 -- A set of roles in two 64-bit words, and what each operation on it gives.
-use Rattle.std.specs.Prelude.{ℕ, ◌+◌, ◌-◌, ◌/◌, ◌%◌, ◌^◌, Bool, false, cond, not, ◌&&◌, ltb, eqb}
+use Rattle.std.specs.Prelude.{ℕ, ◌+◌, ◌-◌, ◌/◌, ◌%◌, ◌^◌, Bool, false, cond, not, ◌&&◌, ltb, eqb, Option, Some, None}
 use Rattle.std.specs.Int.Bits.{bit_and, bit_or, bit_xor}
 use Rattle.std.specs.Int.Count.{ones, count_trailing_zeros}
 use Rattle.roles.specs.declared.RoleSet.{RoleSet}
@@ -68,3 +68,7 @@ unfoldable pub lowest_role : RoleSet → ℕ
 lowest_role s =
     let low = count_trailing_zeros 64 s.low in
     cond (ltb low 64) low (64 + count_trailing_zeros 64 s.high)
+
+-- the lowest role, where there is one
+unfoldable pub lowest_of : RoleSet → Option ℕ
+lowest_of s = cond (ltb (lowest_role s) 128) (Some (lowest_role s)) None

@@ -1,11 +1,13 @@
 // A set of at most 128 roles in two 64-bit words: masks for union, meeting and inclusion, a shift for one role.
 #![tactic(auto)]
 
-ghost use Rattle.std.specs.Prelude.{◌≡◌, min};
-ghost use Rattle.roles.specs.Sets.{empty_set, single_of, union_of, meet_of, with_of, apart_of, without_of, has_role, shares_role, includes, same_set, size_of, lowest_role};
+ghost use Rattle.std.specs.Prelude.{◌≡◌};
+ghost use Rattle.std.specs.Iterator.{at_most};
+ghost use Rattle.roles.specs.Sets.{empty_set, single_of, union_of, meet_of, with_of, apart_of, without_of, has_role, shares_role, includes, size_of, lowest_of};
+ghost use Rattle.roles.specs.Taking.{many, Taken};
 
 // Bit r of `low` is role r, bit r of `high` is role 64 + r.
-#[derive(Clone, Copy)]
+#[derive(Clone, Copy, PartialEq, Eq)]
 pub struct RoleSet {
     pub low: u64,
     pub high: u64,
@@ -96,25 +98,18 @@ impl RoleSet {
         self.less(RoleSet::single(role))
     }
 
-    // Whether both sets are equal.
-    pub fn same(self, other: RoleSet) -> bool
-        ensures { result ≡ same_set self other }
-    {
-        (self.low == other.low) & (self.high == other.high)
-    }
-
     // Whether the two sets have a role in common.
     pub fn shares(self, other: RoleSet) -> bool
         ensures { result ≡ shares_role self other }
     {
-        !self.meet(other).same(RoleSet::empty())
+        self.meet(other) != RoleSet::empty()
     }
 
     // Whether every role of this set is in the other.
     pub fn within(self, other: RoleSet) -> bool
         ensures { result ≡ includes other self }
     {
-        self.meet(other).same(self)
+        self.meet(other) == self
     }
 
     // How many roles the set has.
@@ -124,24 +119,45 @@ impl RoleSet {
         u64::count_ones(self.low) + u64::count_ones(self.high)
     }
 
-    // The lowest role of the set; 128 where it has none.
-    pub fn lowest(self) -> usize
-        ensures { result ≡ lowest_role self }
+    // The lowest role of the set, where it has one.
+    pub fn lowest(self) -> Option<usize>
+        ensures { result ≡ lowest_of self }
     {
         let low = u64::trailing_zeros(self.low) as usize;
         if low < 64 {
-            return low;
+            return Some(low);
         }
-        64 + u64::trailing_zeros(self.high) as usize
+        let high = u64::trailing_zeros(self.high) as usize;
+        if high < 64 {
+            return Some(64 + high);
+        }
+        None
+    }
+
+    // The roles of the set, from the lowest on.
+    pub fn roles(self) -> Roles
+        ensures { result.left ≡ self }
+    {
+        Roles { left: self }
     }
 }
 
-// The smaller of two numbers.
-pub fn smaller(one: usize, other: usize) -> usize
-    ensures { result ≡ min one other }
-{
-    if one < other {
-        return one;
+// The roles that are left of a set, which come from the lowest on.
+#[derive(Clone, Copy)]
+pub struct Roles {
+    pub left: RoleSet,
+}
+
+impl Iterator for Roles {
+    type Item = usize;
+
+    ghost next_gives = { λ old role new. Taken old.left role new.left };
+
+    ghost remaining = { λ roles. at_most (many roles.left) };
+
+    fn next(&mut self) -> Option<usize> {
+        let role = self.left.lowest()?;
+        self.left = self.left.without(role);
+        Some(role)
     }
-    other
 }

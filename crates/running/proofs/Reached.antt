@@ -1,6 +1,6 @@
 -- What holds between two lines while a trace is run: the steps so far, the run of them, what the ledger says, and that the rest of the text decides.
-use Prim.Native.Nat.{ℕ, zero, suc, ◌+◌, ◌≤◌, ◌<◌, zero-le}
-use Rattle.std.specs.Prelude.{Bool, ◌≡◌}
+use Prim.Native.Nat.{ℕ, suc, ◌+◌, ◌≤◌, ◌<◌, zero-le}
+use Rattle.std.specs.Prelude.{Bool, ◌≡◌, Option, Some, None, Result, Ok, Err}
 use Rattle.std.proofs.Math.Bool.{true, false}
 use mathlib.Core.List.{List, [], ◌∷◌, ◌++◌}
 use Rattle.std.proofs.Math.Path.{refl, sym, ap, ap₂}
@@ -19,6 +19,8 @@ use Rattle.ledgers.specs.LedgerLaws.{users_lent}
 use Rattle.text.specs.Forms.{bytes}
 use Rattle.text.specs.Pieces.{part, same_bytes, Sought}
 use Rattle.text.specs.Begins.{begins}
+use Rattle.walking.specs.declared.Fault.{Fault}
+use Rattle.walking.specs.Faults.{evidence_number}
 use Rattle.lines.specs.declared.Counts.{Counts}
 use Rattle.reading.specs.Policy.{Said, policy_of}
 use Rattle.reading.specs.Ledger.{ledger_says, Limited}
@@ -37,10 +39,10 @@ use Rattle.running.specs.Range.{Ranged, Room, line_range}
 use Rattle.running.specs.Trying.{changed, next_broken, next_people, TriedNext}
 use Rattle.running.specs.Joining.{with_new, saying, with_person, saying_new, person-after, names_within, saying_limited}
 use Rattle.running.proofs.TraceVerdictExact.{verdict_run, run_refused}
-use Rattle.running.specs.Verdict.{ran_verdict, trace_verdict, so_far, end_verdict}
+use Rattle.running.specs.Verdict.{ran_verdict, trace_refused, trace_verdict, so_far, end_verdict}
 
 -- before the line of this number, over what the ledger said at first
-pub record Reached (s : Said) (c : Counts) (text : List ℕ) (at number steps stopped : ℕ) (words : List ℕ) : Type 0 where
+pub record Reached (s : Said) (c : Counts) (text : List ℕ) (at number steps : ℕ) (stopped : Option ℕ) (words : List ℕ) : Type 0 where
   -- the steps so far, and the names that are known
   pub said : List Step
   pub counted : steps ≡ length said
@@ -56,7 +58,7 @@ pub record Reached (s : Said) (c : Counts) (text : List ℕ) (at number steps st
   -- the whole text gives what the lines from here on give
   pub after : After (length s.assigns) (length s.revokes) s.users text at number known said
 
-pub reached_start : (words : List ℕ) (c : Counts) (text : List ℕ) → Limited c → length text ≤ 32768 → begins (bytes "trace\t1\n") text ≡ true → Reached (ledger_says words c) c text 8 2 0 0 words
+pub reached_start : (words : List ℕ) (c : Counts) (text : List ℕ) → Limited c → length text ≤ 32768 → begins (bytes "trace\t1\n") text ≡ true → Reached (ledger_says words c) c text 8 2 0 None words
 unfolding run_of so_far
 reached_start words c text limited short is =
     let s = ledger_says words c in
@@ -74,12 +76,12 @@ reached_start words c text limited short is =
     }
 
 -- a program's end of a run is the verdict
-end_is : (steps stopped : ℕ) (names : List Name) (goals : List RoleSet) (σ : State) → end_verdict stopped steps names (first_bad σ goals) ≡ ran_verdict steps names goals (so_far stopped σ)
+end_is : (steps : ℕ) (stopped : Option ℕ) (names : List Name) (goals : List RoleSet) (σ : State) → end_verdict stopped steps names (first_bad σ goals) ≡ ran_verdict steps names goals (so_far stopped σ)
 unfolding end_verdict ran_verdict so_far
-end_is steps zero names goals σ = refl
-end_is steps (suc number) names goals σ = refl
+end_is steps None names goals σ = refl
+end_is steps (Some number) names goals σ = refl
 
-module _ {s : Said} {c : Counts} {text : List ℕ} {at number steps stopped : ℕ} {words : List ℕ} (r : Reached s c text at number steps stopped words) where
+module _ {s : Said} {c : Counts} {text : List ℕ} {at number steps : ℕ} {stopped : Option ℕ} {words : List ℕ} (r : Reached s c text at number steps stopped words) where
   -- the names that the ledger lends are those that are known, and there is a person for each
   known_lent : rows c.users (part words 512 (length words)) ≡ r.known
   unfolding ledger_says
@@ -95,25 +97,26 @@ module _ {s : Said} {c : Counts} {text : List ℕ} {at number steps stopped : �
 
   module _ {stop : ℕ} (sought : Sought text at 10 stop) (here : stop < length text) where
     -- the last line
-    pub reached_last : {found : Found} {verdict : TraceVerdict} → same_bytes (part text at stop) (bytes "end") ≡ true → length text ≤ stop + 1
-        → found ≡ first_bad (rows_in people words c.users) (rows_in goal_sets words c.goals) → verdict ≡ end_verdict stopped steps (rows c.users (part words 512 (length words))) found → verdict ≡ trace_verdict s text
+    pub reached_last : {found : Option Found} {verdict : TraceVerdict} → same_bytes (part text at stop) (bytes "end") ≡ true → length text ≤ stop + 1
+        → found ≡ first_bad (rows_in people words c.users) (rows_in goal_sets words c.goals) → verdict ≡ end_verdict stopped steps (rows c.users (part words 512 (length words))) found → Ok verdict ≡ trace_verdict s text
     unfolding ledger_says
     reached_last last all finds is =
-        is
+        ap Ok
+        (is
         ∙ ap₂ (end_verdict stopped steps) known_lent (finds ∙ (λ i. first_bad (r.says i).holdings (r.says i).goals))
         ∙ end_is steps stopped r.known s.goals r.state
-        ∙ ap (λ (n : ℕ). ran_verdict n r.known s.goals (so_far stopped r.state)) r.counted
+        ∙ ap (λ (n : ℕ). ran_verdict n r.known s.goals (so_far stopped r.state)) r.counted)
         ∙ sym (verdict_run s text (line_last r.after sought here last all) r.run)
 
 -- a line that is not `end`, read over the names that are known and the counts of the ledger
-pub record Line (s : Said) (c : Counts) (text : List ℕ) (at number steps stopped : ℕ) (words : List ℕ) (stop : ℕ) (answer : TraceLine) : Type 0 where
+pub record Line (s : Said) (c : Counts) (text : List ℕ) (at number steps : ℕ) (stopped : Option ℕ) (words : List ℕ) (stop : ℕ) (answer : Result TraceLine Fault) : Type 0 where
   pub reached : Reached s c text at number steps stopped words
   pub sought : Sought text at 10 stop
   pub here : stop < length text
   pub is_not : same_bytes (part text at stop) (bytes "end") ≡ false
   pub given : answer ≡ trace_line c.assigns c.revokes (rows c.users (part words 512 (length words))) (part text at stop)
 
-module _ {s : Said} {c : Counts} {text : List ℕ} {at number steps stopped : ℕ} {words : List ℕ} {stop : ℕ} {answer : TraceLine} (l : Line s c text at number steps stopped words stop answer) where
+module _ {s : Said} {c : Counts} {text : List ℕ} {at number steps : ℕ} {stopped : Option ℕ} {words : List ℕ} {stop : ℕ} {answer : Result TraceLine Fault} (l : Line s c text at number steps stopped words stop answer) where
   abbrev r : Reached s c text at number steps stopped words
   r = l.reached
 
@@ -126,11 +129,17 @@ module _ {s : Said} {c : Counts} {text : List ℕ} {at number steps stopped : �
       l.given ∙ (λ i. trace_line (assigns i) (revokes i) (known_lent r i) (part text at stop))
 
   -- a bad line
-  pub reached_bad : {k : ℕ} → answer ≡ TraceLine.Bad k → TraceVerdict.Refused k number ≡ trace_verdict s text
-  reached_bad {k} told = sym ((run_refused s text k number).1 (line_bad r.after l.sought l.here l.is_not given_said told))
+  pub reached_bad : {fault : Fault} → answer ≡ Err fault → trace_refused (evidence_number fault) number ≡ trace_verdict s text
+  reached_bad {fault} told = sym ((run_refused s text (evidence_number fault) number).1 (line_bad r.after l.sought l.here l.is_not given_said told))
 
   -- a step more
-  module _ {step : Step} {name : Name} (told : answer ≡ TraceLine.Step step name) where
+  module _ {read : TraceLine} (told : answer ≡ Ok read) where
+    abbrev step : Step
+    step = read.step
+
+    abbrev name : Name
+    name = read.name
+
     lent_range : Ranged c.assigns c.revokes (length (rows c.users (part words 512 (length words)))) step × Room (length (rows c.users (part words 512 (length words)))) step
     lent_range = line_range c.assigns c.revokes (rows c.users (part words 512 (length words))) (part text at stop) (sym l.given ∙ told)
 
@@ -142,7 +151,7 @@ module _ {s : Said} {c : Counts} {text : List ℕ} {at number steps stopped : �
     step_room = subst (λ (n : ℕ). Room n step) (names.rows_length c.users (part words 512 (length words))) lent_range.1
 
     -- the step is tried, unless one before it was none, and who joins is entered
-    module _ {answered : ℕ} (tried left : List ℕ) (d : Counts) (next : TriedNext (ledger_says words c) stopped (steps + 1) step answered (ledger_says tried c))
+    module _ {answered : Option ℕ} (tried left : List ℕ) (d : Counts) (next : TriedNext (ledger_says words c) stopped (steps + 1) step answered (ledger_says tried c))
         (enters : ledger_says left d ≡ with_new (ledger_says tried c) step name) where
       abbrev P : Policy
       P = policy_of s
@@ -167,17 +176,17 @@ module _ {s : Said} {c : Counts} {text : List ℕ} {at number steps stopped : �
       unfolding so_far next_broken next_people policy_of
       now_runs = go stopped refl (possible P r.state step) refl
         where
-          go : (n : ℕ) → stopped ≡ n → (b : Bool) → possible P r.state step ≡ b → run_of P s.holdings (r.said ++ (step ∷ [])) ≡ so_far answered (with_person r.known people_left step)
-          go zero none true is =
-              run_more P s.holdings r.said step (r.run ∙ ap (λ (n : ℕ). so_far n r.state) none) is
+          go : (o : Option ℕ) → stopped ≡ o → (b : Bool) → possible P r.state step ≡ b → run_of P s.holdings (r.said ++ (step ∷ [])) ≡ so_far answered (with_person r.known people_left step)
+          go None none true is =
+              run_more P s.holdings r.said step (r.run ∙ ap (λ (o : Option ℕ). so_far o r.state) none) is
               ∙ ap ran (sym ((λ i. with_person r.known (next_people (none i) (is i) (changed P r.state step) r.state) step) ∙ person-after P r.known r.state step (state_many r) is))
-              ∙ ap (λ (n : ℕ). so_far n (with_person r.known people_left step)) (sym (over.answered ∙ (λ i. next_broken (none i) (steps + 1) (is i))))
-          go zero none false is =
-              run_breaks P s.holdings r.said step [] (r.run ∙ ap (λ (n : ℕ). so_far n r.state) none) is
-              ∙ ap (λ (n : ℕ). so_far n (with_person r.known people_left step)) (sym (over.answered ∙ (λ i. next_broken (none i) (steps + 1) (is i)) ∙ add-one steps ∙ ap suc r.counted))
-          go (suc before) some b is =
-              broken_stays P s.holdings r.said (step ∷ []) (suc before) (r.run ∙ ap (λ (n : ℕ). so_far n r.state) some)
-              ∙ ap (λ (n : ℕ). so_far n (with_person r.known people_left step)) (sym (over.answered ∙ ap (λ (n : ℕ). next_broken n (steps + 1) (possible P r.state step)) some))
+              ∙ ap (λ (o : Option ℕ). so_far o (with_person r.known people_left step)) (sym (over.answered ∙ (λ i. next_broken (none i) (steps + 1) (is i))))
+          go None none false is =
+              run_breaks P s.holdings r.said step [] (r.run ∙ ap (λ (o : Option ℕ). so_far o r.state) none) is
+              ∙ ap (λ (o : Option ℕ). so_far o (with_person r.known people_left step)) (sym (over.answered ∙ (λ i. next_broken (none i) (steps + 1) (is i)) ∙ ap Some (add-one steps ∙ ap suc r.counted)))
+          go (Some before) some b is =
+              broken_stays P s.holdings r.said (step ∷ []) before (r.run ∙ ap (λ (o : Option ℕ). so_far o r.state) some)
+              ∙ ap (λ (o : Option ℕ). so_far o (with_person r.known people_left step)) (sym (over.answered ∙ ap (λ (o : Option ℕ). next_broken o (steps + 1) (possible P r.state step)) some))
 
       pub step_next : Reached s d text (stop + 1) (number + 1) (steps + 1) answered left
       step_next = record {

@@ -1,6 +1,5 @@
 -- The verdict on a trace, and that it is exact.
 pub mod Verdict
-pub mod Ends
 pub mod Range
 pub mod Looking
 pub mod Trying

@@ -1,9 +1,9 @@
 -- Going through the rows of a part for the first that passes a test.
-use Rattle.std.specs.Prelude.{ℕ, ◌+◌, ◌≤◌, ◌<◌, Bool, true, false, List, ◌≡◌, get_or}
-use Rattle.std.proofs.Common.{zero-le, below_more, sym, ap, ◌∙◌, add-one, arith}
+use Rattle.std.specs.Prelude.{ℕ, ◌+◌, ◌≤◌, ◌<◌, Bool, true, false, List, Some, None, ◌≡◌, position, get_or}
+use Rattle.std.proofs.Common.{zero-le, below_more, ap, ◌∙◌, arith}
 use Rattle.ledgers.specs.Parts.{Part, row_at, rows_in}
 use Rattle.ledgers.specs.PartLaws.{rows_length, rows_at}
-use Rattle.steps.specs.First.{first, first_some, first_none}
+use Rattle.steps.specs.First.{place_some, place_none}
 
 -- Of so many rows none before the place passes.
 pub record Passed {A : Type 0} (part : Part A) (test : A → Bool) (words : List ℕ) (count place : ℕ) : Type 0 where
@@ -25,16 +25,15 @@ module _ {A : Type 0} {part : Part A} {test : A → Bool} {words : List ℕ} {co
     passed_more here fails = record { reached = omega arith; failed = below_more _ place passed.failed fails }
 
     -- it does
-    pub first_here : place < count → test (row_at part words place) ≡ true → first test (rows_in part words count) ≡ place + 1
+    pub first_here : place < count → test (row_at part words place) ≡ true → position test (rows_in part words count) ≡ Some place
     first_here here passes =
-        (first_some test (row_at part words 0) (rows_in part words count) place).1 (record {
+        (place_some test (row_at part words 0) (rows_in part words count) place).1 (record {
           inside = omega (arith, rows_length part words count);
           passes = in_list place here passes;
           earlier = λ k below. in_list k (omega arith) (passed.failed k below);
         })
-        ∙ sym (add-one place)
 
     -- no row is left
-    pub first_nowhere : count ≤ place → first test (rows_in part words count) ≡ 0
+    pub first_nowhere : count ≤ place → position test (rows_in part words count) ≡ None
     first_nowhere all =
-        (first_none test (row_at part words 0) (rows_in part words count)).1 (record { fails = λ k inside. let here : k < count = omega (arith, rows_length part words count) in in_list k here (passed.failed k (omega arith)) })
+        (place_none test (row_at part words 0) (rows_in part words count)).1 (record { fails = λ k inside. let here : k < count = omega (arith, rows_length part words count) in in_list k here (passed.failed k (omega arith)) })

@@ -1,11 +1,12 @@
 -- Everybody in a run has a name: a state that the steps of a trace lead to has a person for each name that is known, and there are at most 64.
-use Rattle.std.specs.Prelude.{ℕ, ◌≤◌, Bool, true, false, cond, List, [], ◌∷◌, ◌≡◌, refl, length}
+use Rattle.std.specs.Prelude.{ℕ, ◌≤◌, Bool, true, false, cond, List, [], ◌∷◌, Result, Ok, Err, ◌≡◌, refl, length}
 use Rattle.std.proofs.Common.{true≢false, sym, ◌∙◌, le-ltb, length-set, length-append, arith}
 use Rattle.std.proofs.Math.Path.{subst⁻¹}
 use Rattle.model.specs.Policy.{Policy, State, newcomer, granted, revoked, joined, departed}
 use Rattle.tables.specs.declared.Name.{Name}
 use Rattle.text.specs.Forms.{bytes}
 use Rattle.text.specs.Pieces.{same_bytes}
+use Rattle.walking.specs.declared.Fault.{Fault}
 use Rattle.walking.specs.Texts.{goes, ends, bad}
 use Rattle.walking.specs.Kept.{text_keeps}
 use Rattle.reading.specs.Policy.{Said, policy_of}
@@ -24,7 +25,7 @@ use Rattle.running.specs.Joining.{names_within}
 -- A line that leads on is the header, or says a step and brings a name.
 data Added (assigns revokes : ℕ) (s : Traced) (line : List ℕ) : Traced → Type 0 where
   header : Added assigns revokes s line (begun s)
-  step : {step : Step} {name : Name} → trace_line assigns revokes s.names line ≡ TraceLine.Step step name → Added assigns revokes s line (stepped s step name)
+  step : {read : TraceLine} → trace_line assigns revokes s.names line ≡ Ok read → Added assigns revokes s line (stepped s read.step read.name)
 
 line_adds : (assigns revokes : ℕ) (s t : Traced) (line : List ℕ) → judge_line assigns revokes s line ≡ goes t → Added assigns revokes s line t
 unfolding judge_line header_line later_line answered
@@ -35,9 +36,9 @@ line_adds assigns revokes s t line is = by_start s.started is
         let one : u ≡ t = cc in
         subst⁻¹ (Added assigns revokes s line) (sym one) added
 
-    says : (a : TraceLine) → trace_line assigns revokes s.names line ≡ a → answered s a ≡ goes t → Added assigns revokes s line t
-    says (TraceLine.Step taken name) given e = same (step given) e
-    says (TraceLine.Bad number) given e = absurd (true≢false (cc))
+    says : (a : Result TraceLine Fault) → trace_line assigns revokes s.names line ≡ a → answered s a ≡ goes t → Added assigns revokes s line t
+    says (Ok read) given e = same (step given) e
+    says (Err fault) given e = absurd (true≢false (cc))
 
     after_header : (b : Bool) → cond b ends (answered s (trace_line assigns revokes s.names line)) ≡ goes t → Added assigns revokes s line t
     after_header true e = absurd (true≢false (cc))
@@ -69,10 +70,10 @@ module _ (P : Policy) (start : State) where
 
   added_peopled : {assigns revokes : ℕ} {s t : Traced} {line : List ℕ} → Added assigns revokes s line t → Peopled s → Peopled t
   added_peopled header peopled = record { each = peopled.each }
-  added_peopled {s = s} (step {step = taken} {name = name} is) peopled = record {
+  added_peopled {s = s} (step {read = read} is) peopled = record {
     each = λ follows.
-        let (before, earlier, used) = follows_last s.steps taken follows in
-        use_named s.names name (peopled.each earlier) used;
+        let (before, earlier, used) = follows_last s.steps read.step follows in
+        use_named s.names read.name (peopled.each earlier) used;
   }
 
 -- Of a trace that is read over users with a person for each: so has each state that its steps lead to, for each name that is known.
@@ -99,4 +100,4 @@ names_most s text {t} reads few =
 
     go : {u v : Traced} {line : List ℕ} → Added (length s.assigns) (length s.revokes) u line v → length u.names ≤ 64 → length v.names ≤ 64
     go header most = most
-    go {u} {line = line} (step {step = taken} {name = name} is) most = names_within u.names taken name most (line_range (length s.assigns) (length s.revokes) u.names line is).1
+    go {u} {line = line} (step {read = read} is) most = names_within u.names read.step read.name most (line_range (length s.assigns) (length s.revokes) u.names line is).1

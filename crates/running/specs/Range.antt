@@ -1,5 +1,5 @@
 -- The places in a step that a line says are those of names that are known and of rules of the policy, and there is room for a new name.
-use Rattle.std.specs.Prelude.{ℕ, ◌-◌, ◌≤◌, ◌<◌, true, not, ◌&&◌, List, ◌≡◌, eqb, leb, length}
+use Rattle.std.specs.Prelude.{ℕ, ◌-◌, ◌≤◌, ◌<◌, true, not, ◌&&◌, List, Ok, ◌≡◌, eqb, leb, length}
 use borrow.Author.Tests.{leb-true, ltb-true, le-ltb, eq-eqb}
 use Rattle.std.proofs.Math.Bool.{false≢true, and-eq-true_iff}
 use Rattle.std.proofs.Common.{sym, ap, ◌∙◌, arith}
@@ -7,11 +7,11 @@ use Rattle.std.proofs.Math.Path.{subst}
 use Rattle.tables.specs.declared.Name.{Name}
 use Rattle.text.specs.Forms.{is_name, number_of}
 use Rattle.text.specs.Pieces.{split}
-use Rattle.walking.specs.TurnLaws.{turn_good}
 use Rattle.fields.specs.Fields.{placed, is_declared}
 use Rattle.steps.specs.declared.Step.{Step}
 use Rattle.traces.specs.declared.TraceLine.{TraceLine}
 use Rattle.traces.specs.TraceLines.{Line, assign, revoke, join, leave, other, line_of, is_step, step_named, step_formed, step_known, step_within, step_said, judged, trace_line}
+use Rattle.traces.specs.TraceLineLaws.{comes_good}
 
 -- an actor, a rule and a user below their counts
 pub record InRange (rules users actor rule user : ℕ) : Type 0 where
@@ -68,11 +68,11 @@ module _ (assigns revokes : ℕ) (names : List Name) where
   said_room other within = tt
 
   -- A step that a line says is in range, and there is room for its name.
-  pub line_range : (line : List ℕ) {step : Step} {name : Name} → trace_line assigns revokes names line ≡ TraceLine.Step step name → Ranged assigns revokes (length names) step × Room (length names) step
+  pub line_range : (line : List ℕ) {read : TraceLine} → trace_line assigns revokes names line ≡ Ok read → Ranged assigns revokes (length names) read.step × Room (length names) read.step
   unfolding trace_line judged
-  line_range line {step} {name} good =
-      let (passed, says) = turn_good TraceLine.Bad _ _ (TraceLine.Step step name) (λ k is. false≢true (cc)) good in
-      let is : step_said names (line_of (split 9 line)) ≡ step = cc in (
-        subst (Ranged assigns revokes (length names)) is (said_range (line_of (split 9 line)) passed.0 passed.1.0),
-        subst (Room (length names)) is (said_room (line_of (split 9 line)) passed.1.1.0),
+  line_range line {read} good =
+      let (formed, known, within, says) = comes_good _ _ _ _ good in
+      let is : step_said names (line_of (split 9 line)) ≡ read.step = ap (λ (t : TraceLine). t.step) says in (
+        subst (Ranged assigns revokes (length names)) is (said_range (line_of (split 9 line)) formed known),
+        subst (Room (length names)) is (said_room (line_of (split 9 line)) within),
       )

@@ -1,8 +1,10 @@
 -- A step tried: whether it is possible, and what is said after it; over the rows of a ledger, and over what the ledger says.
-use Prim.Native.Nat.{ℕ, zero, suc, ◌+◌, ◌*◌, ◌≤◌, ◌<◌}
+use Prim.Native.Nat.{ℕ, ◌+◌, ◌*◌, ◌≤◌, ◌<◌}
 use borrow.Author.Tests.{lt-ltb}
-use Rattle.std.specs.Prelude.{Bool, cond, List, ◌≡◌, eqb, length, set}
-use Rattle.std.proofs.Math.Bool.{true, false}
+use Rattle.std.specs.Prelude.{Bool, cond, List, Option, Some, None, ◌≡◌, eqb, length, set}
+use Rattle.std.specs.Bool.{then_some}
+use Rattle.std.specs.Option.{is_some}
+use Rattle.std.proofs.Math.Bool.{true, false, false≢true}
 use Rattle.std.proofs.Common.{inl, inr, ◌∙◌, arith}
 use Rattle.std.proofs.Math.Path.{refl, sym, ap}
 use Rattle.model.specs.declared.Person.{Person}
@@ -40,17 +42,20 @@ may_leave_in words user = (row_at people words user).present
 abbrev pub left_in : List ℕ → ℕ → Person
 left_in words user = leaver (row_at people words user)
 
--- The answer is the test, and where it holds a person is stored at a place.
-pub record StoredIf (test : Bool) (words : List ℕ) (place : ℕ) (p : Person) (answer : Bool) (left : List ℕ) : Type 0 where
-  pub answered : answer ≡ test
-  pub leaves : left ≡ cond test (stored people words place p) words
+-- The rows with a person stored at a place, where there is one.
+abbrev pub stored_at : List ℕ → (place : ℕ) → Option Person → List ℕ
+stored_at words place None = words
+stored_at words place (Some p) = stored people words place p
 
--- where it fails, and where it holds
-pub not_stored : {test : Bool} {words : List ℕ} (place : ℕ) (p : Person) → test ≡ false → StoredIf test words place p false words
-not_stored place p not = record { answered = sym not; leaves = rw not }
+-- The answer is whether there is such a person, who is then stored at a place.
+pub record Stored (changed : Option Person) (words : List ℕ) (place : ℕ) (answer : Bool) (left : List ℕ) : Type 0 where
+  pub answered : answer ≡ is_some changed
+  pub leaves : left ≡ stored_at words place changed
 
-pub stored_so : {test : Bool} {words : List ℕ} (place : ℕ) {p q : Person} {left : List ℕ} → test ≡ true → left ≡ stored people words place q → q ≡ p → StoredIf test words place p true left
-stored_so {words = words} place is given same = record { answered = sym is; leaves = given ∙ ap (stored people words place) same ∙ sym (rw is) }
+-- there is one where a test holds
+some-then : {A : Type 0} (test : Bool) (a : A) → is_some (then_some test a) ≡ test
+some-then true a = refl
+some-then false a = refl
 
 -- ---- a step over what is said
 
@@ -67,45 +72,51 @@ pub record Tried (s : Said) (step : Step) (answer : Bool) (left : Said) : Type 0
   pub leaves : left ≡ say_holdings (cond answer (changed (policy_of s) s.holdings step) s.holdings) s
 
 -- The number of the first step that is none, where this one has a number: the one found before, where there is one.
-unfoldable pub next_broken : (broken number : ℕ) (is-possible : Bool) → ℕ
-next_broken zero number is-possible = cond is-possible 0 number
-next_broken (suc before) number is-possible = suc before
+unfoldable pub next_broken : (broken : Option ℕ) (number : ℕ) (is-possible : Bool) → Option ℕ
+next_broken None number is-possible = cond is-possible None (Some number)
+next_broken (Some before) number is-possible = Some before
 
 -- The people then: those whom the step changed, where it and every step before it is one, and else those who were there.
-unfoldable pub next_people : (broken : ℕ) (is-possible : Bool) (changed stay : State) → State
-next_people zero is-possible changed stay = cond is-possible changed stay
-next_people (suc before) is-possible changed stay = stay
+unfoldable pub next_people : (broken : Option ℕ) (is-possible : Bool) (changed stay : State) → State
+next_people None is-possible changed stay = cond is-possible changed stay
+next_people (Some before) is-possible changed stay = stay
 
 -- The step with a number is tried, unless a step before it was none.
-pub record TriedNext (s : Said) (broken number : ℕ) (step : Step) (answer : ℕ) (left : Said) : Type 0 where
+pub record TriedNext (s : Said) (broken : Option ℕ) (number : ℕ) (step : Step) (answer : Option ℕ) (left : Said) : Type 0 where
   pub answered : answer ≡ next_broken broken number (possible (policy_of s) s.holdings step)
   pub leaves : left ≡ say_holdings (next_people broken (possible (policy_of s) s.holdings step) (changed (policy_of s) s.holdings step) s.holdings) s
 
 -- a step before it was none; it is one; it is none
-module _ {s : Said} {broken : ℕ} (number : ℕ) (step : Step) where
-  pub next_past : (broken ≡ 0 → ⊥) → TriedNext s broken number step broken s
+module _ {s : Said} {broken : Option ℕ} (number : ℕ) (step : Step) where
+  pub next_past : is_some broken ≡ true → TriedNext s broken number step broken s
   unfolding next_broken next_people
   next_past some = go broken some
     where
-      go : (n : ℕ) → (n ≡ 0 → ⊥) → TriedNext s n number step n s
-      go zero positive = absurd (positive refl)
-      go (suc before) positive = record { answered = refl; leaves = refl }
+      go : (o : Option ℕ) → is_some o ≡ true → TriedNext s o number step o s
+      go None is = absurd (false≢true is)
+      go (Some before) is = record { answered = refl; leaves = refl }
 
-  module _ {may : Bool} {left : Said} (none : broken ≡ 0) (tried : Tried s step may left) where
-    tried_as : {b : Bool} → may ≡ b → TriedNext s broken number step (cond b 0 number) left
+  module _ {may : Bool} {left : Said} (none : is_some broken ≡ false) (tried : Tried s step may left) where
+    tried_as : {b : Bool} → may ≡ b → TriedNext s broken number step (cond b None (Some number)) left
     unfolding next_broken next_people
-    tried_as {b} is =
-        let moved = changed (policy_of s) s.holdings step in
-        let same : possible (policy_of s) s.holdings step ≡ b = sym tried.answered ∙ is in
-        record {
-          answered = sym (λ i. next_broken (none i) number (same i));
-          leaves = tried.leaves ∙ ap (λ (x : Bool). say_holdings (cond x moved s.holdings) s) is ∙ sym (λ i. say_holdings (next_people (none i) (same i) moved s.holdings) s);
-        }
+    tried_as {b} is = go broken none
+      where
+        same : possible (policy_of s) s.holdings step ≡ b
+        same = sym tried.answered ∙ is
 
-    pub next_goes : may ≡ true → TriedNext s broken number step 0 left
+        go : (o : Option ℕ) → is_some o ≡ false → TriedNext s o number step (cond b None (Some number)) left
+        go None e =
+            let moved = changed (policy_of s) s.holdings step in
+            record {
+              answered = sym (ap (next_broken None number) same);
+              leaves = tried.leaves ∙ ap (λ (x : Bool). say_holdings (cond x moved s.holdings) s) (is ∙ sym same);
+            }
+        go (Some before) e = absurd (false≢true (sym e))
+
+    pub next_goes : may ≡ true → TriedNext s broken number step None left
     next_goes is = tried_as is
 
-    pub next_breaks : may ≡ false → TriedNext s broken number step number left
+    pub next_breaks : may ≡ false → TriedNext s broken number step (Some number) left
     next_breaks is = tried_as is
 
 -- the policy and the state that a ledger says by its counts
@@ -133,14 +144,16 @@ person-stored words room c limited place p inside =
 
 module _ (words : List ℕ) (room : ledger_words ≤ length words) (c : Counts) (limited : Limited c) where
   -- a step whose test is that of the rows, and which changes the person at a place
-  tried_by : (step : Step) {test answer : Bool} {left : List ℕ} (place : ℕ) (p : Person) → place < c.users → possible (policy_in words c) (state_in words c) step ≡ test
-      → changed (policy_in words c) (state_in words c) step ≡ set (state_in words c) place p → StoredIf test words place p answer left → Tried (ledger_says words c) step answer (ledger_says left c)
-  tried_by step {test} {answer} place p inside is changes kept = record {
-    answered = kept.answered ∙ sym is;
-    leaves = ap (λ (l : List ℕ). ledger_says l c) kept.leaves ∙ go test ∙ ap (λ (b : Bool). say_holdings (cond b (changed (policy_in words c) (state_in words c) step) (state_in words c)) (ledger_says words c)) (sym kept.answered);
-  }
+  tried_by : (step : Step) {test answer : Bool} {now : Option Person} {left : List ℕ} (place : ℕ) (p : Person) → place < c.users → possible (policy_in words c) (state_in words c) step ≡ test
+      → changed (policy_in words c) (state_in words c) step ≡ set (state_in words c) place p → now ≡ then_some test p → Stored now words place answer left → Tried (ledger_says words c) step answer (ledger_says left c)
+  tried_by step {test} {answer} place p inside is changes made kept =
+      let told : answer ≡ test = kept.answered ∙ ap is_some made ∙ some-then test p in
+      record {
+        answered = told ∙ sym is;
+        leaves = ap (λ (l : List ℕ). ledger_says l c) (kept.leaves ∙ ap (stored_at words place) made) ∙ go test ∙ ap (λ (b : Bool). say_holdings (cond b (changed (policy_in words c) (state_in words c) step) (state_in words c)) (ledger_says words c)) (sym told);
+      }
     where
-      go : (b : Bool) → ledger_says (cond b (stored people words place p) words) c ≡ say_holdings (cond b (changed (policy_in words c) (state_in words c) step) (state_in words c)) (ledger_says words c)
+      go : (b : Bool) → ledger_says (stored_at words place (then_some b p)) c ≡ say_holdings (cond b (changed (policy_in words c) (state_in words c) step) (state_in words c)) (ledger_says words c)
       go true = person-stored words room c limited place p inside ∙ sym (ap (λ (σ : State). say_holdings σ (ledger_says words c)) changes)
       go false = refl
 
@@ -155,9 +168,9 @@ module _ (words : List ℕ) (room : ledger_words ≤ length words) (c : Counts) 
     unfolding ledger_says policy_of changed after granted assign_at person
     assign_after r = rw (rows_at assign_rules words c.assigns rule no_assign r.ruled, rows_at people words c.users user nobody r.used)
 
-    pub assign_tried : InRange c.assigns c.users actor rule user → {answer : Bool} {left : List ℕ} → StoredIf (may_assign_in words actor rule user) words user (assigned_in words rule user) answer left
+    pub assign_tried : InRange c.assigns c.users actor rule user → {now : Option Person} {answer : Bool} {left : List ℕ} → now ≡ then_some (may_assign_in words actor rule user) (assigned_in words rule user) → Stored now words user answer left
         → Tried (ledger_says words c) (Step.Assign actor rule user) answer (ledger_says left c)
-    assign_tried r kept = tried_by (Step.Assign actor rule user) user (assigned_in words rule user) r.used (assign_may r) (assign_after r) kept
+    assign_tried r made kept = tried_by (Step.Assign actor rule user) user (assigned_in words rule user) r.used (assign_may r) (assign_after r) made kept
 
     revoke_may : InRange c.revokes c.users actor rule user → possible (policy_in words c) (state_in words c) (Step.Revoke actor rule user) ≡ may_revoke_in words actor rule user
     unfolding ledger_says policy_of possible revoke_at person
@@ -169,9 +182,9 @@ module _ (words : List ℕ) (room : ledger_words ≤ length words) (c : Counts) 
     unfolding ledger_says policy_of changed after revoked revoke_at person
     revoke_after r = rw (rows_at revoke_rules words c.revokes rule no_revoke r.ruled, rows_at people words c.users user nobody r.used)
 
-    pub revoke_tried : InRange c.revokes c.users actor rule user → {answer : Bool} {left : List ℕ} → StoredIf (may_revoke_in words actor rule user) words user (revoked_in words rule user) answer left
+    pub revoke_tried : InRange c.revokes c.users actor rule user → {now : Option Person} {answer : Bool} {left : List ℕ} → now ≡ then_some (may_revoke_in words actor rule user) (revoked_in words rule user) → Stored now words user answer left
         → Tried (ledger_says words c) (Step.Revoke actor rule user) answer (ledger_says left c)
-    revoke_tried r kept = tried_by (Step.Revoke actor rule user) user (revoked_in words rule user) r.used (revoke_may r) (revoke_after r) kept
+    revoke_tried r made kept = tried_by (Step.Revoke actor rule user) user (revoked_in words rule user) r.used (revoke_may r) (revoke_after r) made kept
 
   module _ {user : ℕ} where
     leave_may : user < c.users → possible (policy_in words c) (state_in words c) (Step.Leave user) ≡ may_leave_in words user
@@ -182,8 +195,8 @@ module _ (words : List ℕ) (room : ledger_words ≤ length words) (c : Counts) 
     unfolding ledger_says policy_of changed after departed person
     leave_after here = rw (rows_at people words c.users user nobody here)
 
-    pub leave_tried : user < c.users → {answer : Bool} {left : List ℕ} → StoredIf (may_leave_in words user) words user (left_in words user) answer left → Tried (ledger_says words c) (Step.Leave user) answer (ledger_says left c)
-    leave_tried here kept = tried_by (Step.Leave user) user (left_in words user) here (leave_may here) (leave_after here) kept
+    pub leave_tried : user < c.users → {now : Option Person} {answer : Bool} {left : List ℕ} → now ≡ then_some (may_leave_in words user) (left_in words user) → Stored now words user answer left → Tried (ledger_says words c) (Step.Leave user) answer (ledger_says left c)
+    leave_tried here made kept = tried_by (Step.Leave user) user (left_in words user) here (leave_may here) (leave_after here) made kept
 
     -- nobody who is here is changed by a join
     pub join_tried : (clearance : Bool) → Tried (ledger_says words c) (Step.Join user clearance) (eqb user c.users) (ledger_says words c)

@@ -12,15 +12,14 @@ use lines::Counts;
 use state::{enter_new, first_bad, try_next};
 use steps::Found;
 use tables::Name;
-use traces::{TraceLine, code, read_line};
+use traces::read_line;
+use walking::{Fault, Refusal};
 
 mod state;
 
-// The verdict on a trace.
+// The verdict on a trace that is read.
 #[derive(Clone, Copy)]
 pub enum TraceVerdict {
-    // the refusal's number and line
-    Refused(u64, usize),
     // the number of steps, the user's place from 0, the user's name and the goal's number from 1
     Attacked(usize, usize, Name, usize),
     // the number, from 1, of the first step that is not one
@@ -29,45 +28,55 @@ pub enum TraceVerdict {
     Short(usize),
 }
 
-// The verdict on a trace that was read: the first step that is not one, 0 where there is none, then who was found in the last state,
-// by the names that are known.
-fn ending(broken: usize, steps: usize, found: Found, users: &[u64], count: usize) -> TraceVerdict
+// The verdict on a trace that was read: the first step that is not one, where there is such, then who was found in the last state, by
+// the names that are known.
+#[tactic(auto, unfolding(crate::specs::Verdict::last_verdict, crate::specs::Verdict::end_verdict))]
+fn ending(
+    broken: Option<usize>,
+    steps: usize,
+    found: Option<Found>,
+    users: &[u64],
+    count: usize,
+) -> TraceVerdict
     requires { 4 * count ≤ length users.now }
     ensures { result ≡ end_verdict broken steps (rows count users.now) found }
 {
-    if broken != 0 {
-        return TraceVerdict::Broken(broken);
+    match (broken, found) {
+        (Some(number), _) => TraceVerdict::Broken(number),
+        (None, None) => TraceVerdict::Short(steps),
+        (None, Some(found)) => {
+            let user = found.user.saturating_sub(1);
+            let name = tables::name_at(users, count, user);
+            TraceVerdict::Attacked(steps, user, name, found.goal)
+        }
     }
-    if found.user == 0 {
-        return TraceVerdict::Short(steps);
-    }
-    let user = found.user - 1;
-    let name = tables::name_at(users, count, user);
-    TraceVerdict::Attacked(steps, user, name, found.goal)
 }
 
-// The verdict on a trace text over the policy of a ledger, whose people it changes step by step, and to whose users it adds who joins. The
-// first bad line decides a refusal; after the first step that is not one, lines are read on.
-pub fn run_trace(text: &[u8], ledger: &mut [u64], c: Counts) -> TraceVerdict
+// The verdict on a trace text over the policy of a ledger, whose people it changes step by step, and to whose users it adds who joins; or its
+// refusal. The first bad line decides the refusal; after the first step that is not one, lines are read on.
+pub fn run_trace(text: &[u8], ledger: &mut [u64], c: Counts) -> Result<TraceVerdict, Refusal>
     requires { (ledger_words ≤ length ledger.old) × Limited c }
     ensures { result ≡ trace_verdict (ledger_says ledger.old c) text.now }
 {
     let end = text.len();
     if 32768 < end {
-        return TraceVerdict::Refused(14, 0);
+        return Err(Refusal {
+            number: 14,
+            line: 0,
+        });
     }
     if !text::begins_with(text, b"trace\t1\n") {
-        return TraceVerdict::Refused(15, 1);
+        return Err(Fault::Malformed.in_evidence(1));
     }
     let mut known = c;
     let mut steps = 0;
-    let mut broken = 0;
+    let mut broken = None;
     let mut at = 8;
     let mut number = 2;
     while at < end {
         let stop = text::seek(text, at, b'\n');
         if stop == end {
-            return TraceVerdict::Refused(15, number);
+            return Err(Fault::Malformed.in_evidence(number));
         }
         let line = &text[at..stop];
         let here = number;
@@ -75,18 +84,19 @@ pub fn run_trace(text: &[u8], ledger: &mut [u64], c: Counts) -> TraceVerdict
         number += 1;
         if text::same(line, b"end") {
             if at < end {
-                return TraceVerdict::Refused(15, number);
+                return Err(Fault::Malformed.in_evidence(number));
             }
             let found = first_bad(ledger, known.users, known.goals);
-            return ending(broken, steps, found, &ledger[USERS..], known.users);
+            let users = &ledger[USERS..];
+            return Ok(ending(broken, steps, found, users, known.users));
         }
         let answer = read_line(line, &ledger[USERS..], known);
-        let TraceLine::Step(step, name) = answer else {
-            return TraceVerdict::Refused(code(answer), here);
+        let Ok(read) = answer else {
+            return Err(answer.unwrap_err().in_evidence(here));
         };
         steps += 1;
-        broken = try_next(ledger, known, broken, steps, step);
-        known = enter_new(ledger, known, step, name);
+        broken = try_next(ledger, known, broken, steps, read.step);
+        known = enter_new(ledger, known, read.step, read.name);
     }
-    TraceVerdict::Refused(15, number)
+    Err(Fault::Malformed.in_evidence(number))
 }

@@ -1,11 +1,12 @@
 // The state of a run, which is the people of a ledger: a step is tried on it, who joins is entered in it, and the first bad user is found in it.
 ghost use Rattle.std.specs.Prelude.{◌≡◌, ◌≤◌, ◌<◌, length};
+ghost use Rattle.std.specs.Bool.{then_some};
 ghost use Rattle.ledgers.specs.Parts.{rows_in};
 ghost use Rattle.ledgers.specs.Ledger.{ledger_words, people, goal_sets};
 ghost use Rattle.reading.specs.Ledger.{ledger_says, Limited};
 ghost use Rattle.steps.specs.Tests.{lowest_goal, own_goal, first_bad};
 ghost use Rattle.running.specs.Range.{InRange, Ranged, Room};
-ghost use Rattle.running.specs.Trying.{may_assign_in, assigned_in, may_revoke_in, revoked_in, may_leave_in, left_in, StoredIf, Tried, TriedNext};
+ghost use Rattle.running.specs.Trying.{may_assign_in, assigned_in, may_revoke_in, revoked_in, may_leave_in, left_in, Stored, Tried, TriedNext};
 ghost use Rattle.running.specs.Joining.{with_new};
 
 use lines::{Counts, Entry};
@@ -15,44 +16,46 @@ use roles::RoleSet;
 use steps::{Found, Step, may_assign, may_revoke};
 use tables::Name;
 
-// Tries an assign step: where the actor may use the rule on the user, the user holds its target, and else nobody is changed.
-fn try_assign(ledger: &mut [u64], actor: usize, rule: usize, user: usize) -> bool
-    requires { (ledger_words ≤ length ledger.old) × InRange 256 64 actor rule user }
-    ensures { StoredIf (may_assign_in ledger.old actor rule user) ledger.old user (assigned_in ledger.old rule user) result ledger.new }
+// The user after an assign step; none where the actor may not use the rule on the user.
+fn assigned(ledger: &[u64], actor: usize, rule: usize, user: usize) -> Option<Person>
+    requires { (ledger_words ≤ length ledger.now) × InRange 256 64 actor rule user }
+    ensures { result ≡ then_some (may_assign_in ledger.now actor rule user) (assigned_in ledger.now rule user) }
 {
     let used = ledgers::assign(ledger, rule);
     let person = ledgers::person(ledger, user);
-    if !may_assign(used, ledgers::person(ledger, actor), person) {
-        return false;
-    }
-    ledgers::store_person(ledger, user, person.with_role(used.target));
-    true
+    let may = may_assign(used, ledgers::person(ledger, actor), person);
+    may.then_some(person.with_role(used.target))
 }
 
-// Tries a revoke step: where the actor may use the rule on the user, the user holds its target no more, and else nobody is changed.
-fn try_revoke(ledger: &mut [u64], actor: usize, rule: usize, user: usize) -> bool
-    requires { (ledger_words ≤ length ledger.old) × InRange 256 64 actor rule user }
-    ensures { StoredIf (may_revoke_in ledger.old actor rule user) ledger.old user (revoked_in ledger.old rule user) result ledger.new }
+// The user after a revoke step; none where the actor may not use the rule on the user.
+fn revoked(ledger: &[u64], actor: usize, rule: usize, user: usize) -> Option<Person>
+    requires { (ledger_words ≤ length ledger.now) × InRange 256 64 actor rule user }
+    ensures { result ≡ then_some (may_revoke_in ledger.now actor rule user) (revoked_in ledger.now rule user) }
 {
     let used = ledgers::revoke(ledger, rule);
     let person = ledgers::person(ledger, user);
-    if !may_revoke(used, ledgers::person(ledger, actor), person) {
-        return false;
-    }
-    ledgers::store_person(ledger, user, person.without_role(used.target));
-    true
+    let may = may_revoke(used, ledgers::person(ledger, actor), person);
+    may.then_some(person.without_role(used.target))
 }
 
-// Tries a leave: a present user is gone, with no roles, and else nobody is changed.
-fn try_leave(ledger: &mut [u64], user: usize) -> bool
-    requires { (ledger_words ≤ length ledger.old) × (user < 64) }
-    ensures { StoredIf (may_leave_in ledger.old user) ledger.old user (left_in ledger.old user) result ledger.new }
+// The user gone, with no roles; none where the user is not present.
+fn left(ledger: &[u64], user: usize) -> Option<Person>
+    requires { (ledger_words ≤ length ledger.now) × (user < 64) }
+    ensures { result ≡ then_some (may_leave_in ledger.now user) (left_in ledger.now user) }
 {
     let person = ledgers::person(ledger, user);
-    if !person.present {
+    person.present.then_some(person.leaver())
+}
+
+// Stores the user that a step leaves, where it is possible; where there is none, nobody is changed.
+fn store_changed(ledger: &mut [u64], user: usize, changed: Option<Person>) -> bool
+    requires { (ledger_words ≤ length ledger.old) × (user < 64) }
+    ensures { Stored changed ledger.old user result ledger.new }
+{
+    let Some(person) = changed else {
         return false;
-    }
-    ledgers::store_person(ledger, user, person.leaver());
+    };
+    ledgers::store_person(ledger, user, person);
     true
 }
 
@@ -62,25 +65,40 @@ pub fn try_step(ledger: &mut [u64], c: Counts, step: Step) -> bool
     ensures { Tried (ledger_says ledger.old c) step result (ledger_says ledger.new c) }
 {
     match step {
-        Step::Assign { actor, rule, user } => try_assign(ledger, actor, rule, user),
-        Step::Revoke { actor, rule, user } => try_revoke(ledger, actor, rule, user),
+        Step::Assign { actor, rule, user } => {
+            let changed = assigned(ledger, actor, rule, user);
+            store_changed(ledger, user, changed)
+        }
+        Step::Revoke { actor, rule, user } => {
+            let changed = revoked(ledger, actor, rule, user);
+            store_changed(ledger, user, changed)
+        }
         Step::Join { user, clearance: _ } => user == c.users,
-        Step::Leave { user } => try_leave(ledger, user),
+        Step::Leave { user } => {
+            let changed = left(ledger, user);
+            store_changed(ledger, user, changed)
+        }
     }
 }
 
-// Tries the step with a number, unless a step before it was none: the number of the first that is none, 0 where there is none such.
-pub fn try_next(ledger: &mut [u64], c: Counts, broken: usize, number: usize, step: Step) -> usize
+// Tries the step with a number, unless a step before it was none: the number of the first that is none, where there is such.
+pub fn try_next(
+    ledger: &mut [u64],
+    c: Counts,
+    broken: Option<usize>,
+    number: usize,
+    step: Step,
+) -> Option<usize>
     requires { (ledger_words ≤ length ledger.old) × Limited c × Ranged c.assigns c.revokes c.users step }
     ensures { TriedNext (ledger_says ledger.old c) broken number step result (ledger_says ledger.new c) }
 {
-    if broken != 0 {
+    if broken.is_some() {
         return broken;
     }
     if try_step(ledger, c, step) {
-        return 0;
+        return None;
     }
-    number
+    Some(number)
 }
 
 // Enters who joins with a name that is not known, and gives the counts with that name.
@@ -99,48 +117,42 @@ pub fn enter_new(ledger: &mut [u64], c: Counts, step: Step, name: Name) -> Count
     }
 }
 
-// The lowest number, from 1, of a goal that the roles hold whole, among so many goals; 0 where there is none.
-fn lowest_goal(ledger: &[u64], count: usize, roles: RoleSet) -> usize
+// The lowest number, from 1, of a goal that the roles hold whole, among so many goals.
+fn lowest_goal(ledger: &[u64], count: usize, roles: RoleSet) -> Option<usize>
     requires { (ledger_words ≤ length ledger.now) × (count ≤ 32) }
     ensures { result ≡ lowest_goal (rows_in goal_sets ledger.now count) roles }
 {
-    let mut place = 0;
-    while place < count {
-        let goal = ledgers::goal(ledger, place);
-        let number = place + 1;
-        if goal.within(roles) {
-            return number;
+    for place in 0..count {
+        if ledgers::goal(ledger, place).within(roles) {
+            return Some(place + 1);
         }
-        place = number;
     }
-    0
+    None
 }
 
-// The lowest goal that a present L person holds whole; 0 where there is none, and for any other person.
-fn own_goal(ledger: &[u64], count: usize, person: Person) -> usize
+// The lowest goal that a present L person holds whole; none for any other person.
+#[tactic(auto, unfolding(steps::specs::Tests::own_goal))]
+fn own_goal(ledger: &[u64], count: usize, person: Person) -> Option<usize>
     requires { (ledger_words ≤ length ledger.now) × (count ≤ 32) }
     ensures { result ≡ own_goal (rows_in goal_sets ledger.now count) person }
 {
     if person.present & !person.clearance {
         return lowest_goal(ledger, count, person.roles);
     }
-    0
+    None
 }
 
 // The first present L user in order who holds all roles of a goal, with that user's lowest goal, among so many users and goals.
-pub fn first_bad(ledger: &[u64], users: usize, count: usize) -> Found
+pub fn first_bad(ledger: &[u64], users: usize, count: usize) -> Option<Found>
     requires { (ledger_words ≤ length ledger.now) × (users ≤ 64) × (count ≤ 32) }
     ensures { result ≡ first_bad (rows_in people ledger.now users) (rows_in goal_sets ledger.now count) }
 {
-    let mut place = 0;
-    while place < users {
+    for place in 0..users {
         let person = ledgers::person(ledger, place);
-        let user = place + 1;
-        let goal = own_goal(ledger, count, person);
-        if 0 < goal {
-            return Found { user, goal };
+        if let Some(goal) = own_goal(ledger, count, person) {
+            let user = place + 1;
+            return Some(Found { user, goal });
         }
-        place = user;
     }
-    Found { user: 0, goal: 0 }
+    None
 }

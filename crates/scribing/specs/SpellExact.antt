@@ -14,8 +14,7 @@ use Rattle.drafting.specs.PolicyText.{policy_text}
 use Rattle.measuring.specs.Lengths.{spelled_length}
 use Rattle.summing.specs.Outcome.{Outcome, leaves, writes, answer_in, buffer_after, when_read}
 use Rattle.summing.specs.Meeting.{when_read_lem}
-use Rattle.scribing.specs.declared.SpellAnswer.{SpellAnswer}
-use Rattle.scribing.specs.Spell.{spell_written, spell_outcome}
+use Rattle.scribing.specs.Spell.{SpellAnswer, spelled, unspelled, spell_written, spell_outcome}
 use Rattle.scribing.specs.SpellRules.{Spells, not_read, long, fitting, SpellFilled}
 use Rattle.scribing.specs.SpellOutcomes.{spell_refused}
 
@@ -27,7 +26,7 @@ module _ (policy : List ℕ) (room : ℕ) where
   unfolding spell_written
   written_rule {s} is = go (leb (length (policy_text s)) room) refl
     where
-      go : (b : Bool) → leb (length (policy_text s)) room ≡ b → Spells policy room (cond b (writes (SpellAnswer.Spelled (length (policy_text s))) (policy_text s)) (leaves (SpellAnswer.Refused 20 0)))
+      go : (b : Bool) → leb (length (policy_text s)) room ≡ b → Spells policy room (cond b (writes (spelled (length (policy_text s))) (policy_text s)) (leaves (unspelled 20 0)))
       go true fits = fitting is (leb-true (length (policy_text s)) room fits)
       go false short = long is (leb-false (length (policy_text s)) room short)
 
@@ -35,7 +34,7 @@ module _ (policy : List ℕ) (room : ℕ) where
   unfolding spell_outcome when_read
   rule = go (read_policy policy) refl
     where
-      go : (r : Reading Said) → read_policy policy ≡ r → Spells policy room (when_read SpellAnswer.Refused r (λ (s : Said). spell_written room (policy_text s)))
+      go : (r : Reading Said) → read_policy policy ≡ r → Spells policy room (when_read unspelled r (λ (s : Said). spell_written room (policy_text s)))
       go (read s) is = written_rule is
       go (refused number line) is = not_read is
 
@@ -53,21 +52,21 @@ module _ (policy : List ℕ) (room : ℕ) where
 
   module _ (buffer : List ℕ) where
     -- Every answer but success leaves the buffer as it was.
-    pub spelled_unchanged : {number line : ℕ} → answer_in (spell_outcome policy room) ≡ SpellAnswer.Refused number line → buffer_after (spell_outcome policy room) buffer ≡ buffer
+    pub spelled_unchanged : {number line : ℕ} → answer_in (spell_outcome policy room) ≡ unspelled number line → buffer_after (spell_outcome policy room) buffer ≡ buffer
     unfolding answer_in buffer_after
     spelled_unchanged {number} {line} is = go rule is
       where
-        go : {outcome : Outcome SpellAnswer} → Spells policy room outcome → answer_in outcome ≡ SpellAnswer.Refused number line → buffer_after outcome buffer ≡ buffer
+        go : {outcome : Outcome SpellAnswer} → Spells policy room outcome → answer_in outcome ≡ unspelled number line → buffer_after outcome buffer ≡ buffer
         go (not_read refusing) told = refl
         go (long reads short) told = refl
         go (fitting reads fits) told = absurd (true≢false (cc))
 
     -- Success puts the spelling into it, of the length that it answers.
-    pub spelled_fills : {written : ℕ} → answer_in (spell_outcome policy room) ≡ SpellAnswer.Spelled written → SpellFilled policy written buffer (buffer_after (spell_outcome policy room) buffer)
+    pub spelled_fills : {written : ℕ} → answer_in (spell_outcome policy room) ≡ spelled written → SpellFilled policy written buffer (buffer_after (spell_outcome policy room) buffer)
     unfolding answer_in buffer_after
     spelled_fills {written} is = go rule is
       where
-        go : {outcome : Outcome SpellAnswer} → Spells policy room outcome → answer_in outcome ≡ SpellAnswer.Spelled written → SpellFilled policy written buffer (buffer_after outcome buffer)
+        go : {outcome : Outcome SpellAnswer} → Spells policy room outcome → answer_in outcome ≡ spelled written → SpellFilled policy written buffer (buffer_after outcome buffer)
         go (not_read refusing) told = absurd (true≢false (cc))
         go (long reads short) told = absurd (true≢false (cc))
         go (fitting {s} reads fits) told =
@@ -80,5 +79,5 @@ module _ (policy : List ℕ) (room : ℕ) where
               stays = ap (λ (n : ℕ). drop n (put (policy_text s) buffer)) (sym so) ∙ put-past (policy_text s) buffer ∙ ap (λ (n : ℕ). drop n buffer) so;
             }
           where
-            one : {n m : ℕ} → SpellAnswer.Spelled n ≡ SpellAnswer.Spelled m → n ≡ m
+            one : {n m : ℕ} → spelled n ≡ spelled m → n ≡ m
             one e = cc

@@ -1,15 +1,15 @@
 -- The sets that the members of a set have as their own, joined: none, one member at a time, and without those joined before.
-use Prim.Native.Nat.{ℕ, zero, suc, ◌≤◌, ◌<◌}
+use Prim.Native.Nat.{ℕ, zero, suc, ◌<◌}
 use Rattle.std.proofs.Math.Bool.{Bool, true, false, and-true}
 use Rattle.std.specs.Prelude.{not, ◌&&◌, ◌≡◌}
 use Rattle.std.proofs.Math.Path.{refl, sym, ap, ap₂}
 use Rattle.std.proofs.Common.{◌∙◌, eq-eqb, ne_eqb, arith}
 use Rattle.std.proofs.Math.Decide.{dec_lt}
 use Rattle.roles.specs.declared.RoleSet.{RoleSet}
-use Rattle.roles.specs.Sets.{empty_set, has_role, union_of, apart_of, without_of, lowest_role}
+use Rattle.roles.specs.Sets.{empty_set, has_role, union_of, apart_of, without_of}
 use Rattle.roles.specs.MemberLaws.{has_apart, has_without, union_comm, union_assoc, union_self, union_empty, lowest_none}
 use Rattle.sheets.specs.Turned.{add_own, sets_below, sets_of}
-use Rattle.sheets.specs.Taking.{taken_held}
+use Rattle.roles.specs.Taking.{TakenRole, TakenNone, taken_held}
 
 -- ---- a role's own set is added to either part of a union
 
@@ -114,12 +114,12 @@ module _ (own : ℕ → RoleSet) where
   joined_start members none = rw none (sym (union_comm empty_set (sets_of own members) ∙ union_empty (sets_of own members)))
 
   module _ {whole : RoleSet} (all left : RoleSet) (so_far : whole ≡ union_of all (sets_of own left)) where
-    pub joined_end : {role : ℕ} → role ≡ lowest_role left → 128 ≤ role → all ≡ whole
-    joined_end lowest over =
-        sym (so_far ∙ ap (union_of all) (sets_none own left (lowest_none left (rw lowest at over))) ∙ union_empty all)
+    pub joined_end : {rest : RoleSet} → TakenNone left rest → all ≡ whole
+    joined_end last =
+        sym (so_far ∙ ap (union_of all) (sets_none own left (lowest_none left last.none)) ∙ union_empty all)
 
-    pub joined_step : {role : ℕ} {more next rest : RoleSet} → role ≡ lowest_role left → role < 128 → more ≡ own role → next ≡ union_of all more → rest ≡ without_of left role
+    pub joined_step : {role : ℕ} {more next rest : RoleSet} → TakenRole left role rest → more ≡ own role → next ≡ union_of all more
         → whole ≡ union_of next (sets_of own rest)
-    joined_step {role} lowest fits is-own grown taken =
-        so_far ∙ ap (union_of all) (sets_step own left role fits (taken_held left lowest fits)) ∙ sym (union_assoc all (own role) (sets_of own (without_of left role)))
-        ∙ sym (ap₂ (λ (s t : RoleSet). union_of s (sets_of own t)) (grown ∙ ap (union_of all) is-own) taken)
+    joined_step {role} taken is-own grown =
+        so_far ∙ ap (union_of all) (sets_step own left role taken.fits (taken_held left taken.lowest taken.fits)) ∙ sym (union_assoc all (own role) (sets_of own (without_of left role)))
+        ∙ sym (ap₂ (λ (s t : RoleSet). union_of s (sets_of own t)) (grown ∙ ap (union_of all) is-own) taken.rest_is)

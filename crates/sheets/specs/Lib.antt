@@ -2,7 +2,6 @@
 pub mod Turned
 pub mod Words
 pub mod Places
-pub mod Taking
 pub mod Joining
 pub mod Noting
 pub mod Members

@@ -1,18 +1,18 @@
 -- A role added to the set of each member, from the lowest on: what a column holds while members are left, and in the end.
-use Rattle.std.specs.Prelude.{ℕ, ◌≤◌, ◌<◌, Bool, cond, ◌&&◌, List, ◌≡◌}
+use Rattle.std.specs.Prelude.{ℕ, Bool, cond, ◌&&◌, List, ◌≡◌}
 use Rattle.std.proofs.Math.Bool.{true, false, not, and-true, and-eq-true_iff}
 use Rattle.std.proofs.Math.Path.{refl, ap, ap₂, subst⁻¹}
 use Rattle.std.proofs.Common.{sym, ◌∙◌}
 use borrow.Author.Tests.{eqb-true, eqb-false, eq-eqb, ne_eqb}
 use Rattle.std.proofs.Math.Dec.{eqb}
 use Rattle.roles.specs.declared.RoleSet.{RoleSet}
-use Rattle.roles.specs.Sets.{has_role, single_of, with_of, without_of, lowest_role}
+use Rattle.roles.specs.Sets.{has_role, single_of, with_of}
 use Rattle.roles.specs.MemberLaws.{has_without, lowest_none}
 use Rattle.sheets.specs.declared.Column.{Column}
 use Rattle.sheets.specs.Turned.{add_if}
 use Rattle.sheets.specs.Words.{set_in}
 use Rattle.sheets.specs.Places.{Changed}
-use Rattle.sheets.specs.Taking.{taken_held}
+use Rattle.roles.specs.Taking.{TakenRole, TakenNone, taken_held}
 
 -- the members that are not left have the role in their sets, and all else is as at entry
 pub record Noted (column : Column) (role : ℕ) (members left : RoleSet) (entry sheet : List ℕ) : Type 0 where
@@ -34,23 +34,23 @@ noted_start column role members entry = record {
   };
 }
 
-module _ {column : Column} {role : ℕ} {members left : RoleSet} {entry sheet : List ℕ} (so_far : Noted column role members left entry sheet) {other : ℕ} (lowest : other ≡ lowest_role left) where
-  pub noted_end : 128 ≤ other → Changed column (λ k. add_if (has_role members k) (single_of role)) entry sheet
-  noted_end over = record {
+module _ {column : Column} {role : ℕ} {members left : RoleSet} {entry sheet : List ℕ} (so_far : Noted column role members left entry sheet) where
+  pub noted_end : {rest : RoleSet} → TakenNone left rest → Changed column (λ k. add_if (has_role members k) (single_of role)) entry sheet
+  noted_end last = record {
     size = so_far.changed.size;
     own = λ k.
-        let gone = ap (λ (b : Bool). has_role members k && not b) (lowest_none left (rw lowest at over) k) ∙ and-true (has_role members k) in
+        let gone = ap (λ (b : Bool). has_role members k && not b) (lowest_none left last.none k) ∙ and-true (has_role members k) in
         so_far.changed.own k ∙ ap (λ (b : Bool). add_if b (single_of role) (set_in entry column k)) gone;
     rest = so_far.changed.rest;
   }
 
-  module _ (next : List ℕ) {rest named : RoleSet} (fits : other < 128) (grown : named ≡ with_of (set_in sheet column other) role)
-      (written : Changed column (λ k old. cond (eqb k other) named old) sheet next) (taken : rest ≡ without_of left other) where
+  module _ (next : List ℕ) {other : ℕ} {rest named : RoleSet} (taken : TakenRole left other rest) (grown : named ≡ with_of (set_in sheet column other) role)
+      (written : Changed column (λ k old. cond (eqb k other) named old) sheet next) where
     held : has_role left other ≡ true
-    held = taken_held left lowest fits
+    held = taken_held left taken.lowest taken.fits
 
     stays : (k : ℕ) → has_role rest k ≡ (has_role left k && not (eqb other k))
-    stays k = ap (λ (s : RoleSet). has_role s k) taken ∙ has_without left other k fits
+    stays k = ap (λ (s : RoleSet). has_role s k) taken.rest_is ∙ has_without left other k taken.fits
 
     -- what the record says of one role
     Right : ℕ → Type 0

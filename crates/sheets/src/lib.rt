@@ -8,16 +8,16 @@ ghost use Rattle.sheets.specs.Words.{column_number, high_in, set_in, said_in, sh
 ghost use Rattle.sheets.specs.Places.{Changed};
 
 use model::Typing;
-use roles::{RoleSet, smaller};
+use roles::RoleSet;
 
 // A sheet is an array of words, two to a set: the roles labelled H, and then a row for each role, with its plus set, its minus set, the
 // roles that have it in their plus set and those that have it in their minus set.
 #[derive(Clone, Copy)]
 pub enum Column {
-    Plus,
-    Minus,
-    Needed,
-    Opposed,
+    Plus = 1,
+    Minus = 2,
+    Needed = 3,
+    Opposed = 4,
 }
 
 // The column's number in a row.
@@ -25,12 +25,7 @@ fn column_number(column: Column) -> usize
     ensures value { result ≡ column_number column }
     ensures upper_bound { result ≤ 4 }
 {
-    match column {
-        Column::Plus => 1,
-        Column::Minus => 2,
-        Column::Needed => 3,
-        Column::Opposed => 4,
-    }
+    column as usize
 }
 
 // The set with the roles of another where the test holds, and as it is where it does not.
@@ -72,15 +67,10 @@ pub fn sets_of(sheet: &[u64; 1026], column: Column, members: RoleSet) -> RoleSet
     ensures { result ≡ sets_of (set_in sheet.now column) members }
 {
     let mut all = RoleSet::empty();
-    let mut left = members;
-    loop {
-        let role = left.lowest();
-        if 128 <= role {
-            return all;
-        }
+    for role in members.roles() {
         all = all.union(set_of(sheet, column, role));
-        left = left.without(role);
     }
+    all
 }
 
 // Puts a role's set into a column.
@@ -98,15 +88,9 @@ fn put(sheet: &mut [u64; 1026], column: Column, role: usize, set: RoleSet)
 fn note(sheet: &mut [u64; 1026], column: Column, members: RoleSet, role: usize)
     ensures { Changed column (λ other. add_if (has_role members other) (single_of role)) sheet.old sheet.new }
 {
-    let mut left = members;
-    loop {
-        let other = left.lowest();
-        if 128 <= other {
-            return;
-        }
+    for other in members.roles() {
         let named = set_of(sheet, column, other).with(role);
         put(sheet, column, other, named);
-        left = left.without(other);
     }
 }
 
@@ -116,10 +100,8 @@ pub fn lay_out(t: Typing, roles: usize, sheet: &mut [u64; 1026])
     ensures sheet_after { sheet.new ≡ sheet_of t roles }
     ensures sheet_after_2 { said_in sheet.new ≡ turned_of t roles }
 {
-    let count = smaller(roles, 128);
     let mut high = RoleSet::empty();
-    let mut role = 0;
-    while role < count {
+    for role in 0..roles.min(128) {
         let more = t.plus[role];
         let less = t.minus[role];
         put(sheet, Column::Plus, role, more);
@@ -127,7 +109,6 @@ pub fn lay_out(t: Typing, roles: usize, sheet: &mut [u64; 1026])
         note(sheet, Column::Needed, more, role);
         note(sheet, Column::Opposed, less, role);
         high = add_if(t.labels[role], RoleSet::single(role), high);
-        role += 1;
     }
     let words: &mut [u64] = sheet;
     words[0] = high.low;

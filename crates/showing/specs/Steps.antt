@@ -5,7 +5,9 @@ use Rattle.std.proofs.Common.{append_assoc, append-nil, sym, ap, ap₂, ◌∙�
 use Rattle.std.proofs.Math.Seq.{take-length}
 use Rattle.text.specs.Forms.{bytes}
 use Rattle.text.specs.PieceLaws.{part_rest}
-use Rattle.writing.specs.Written.{put, decimal}
+use Rattle.tables.specs.declared.Name.{Name}
+use Rattle.writing.specs.Written.{put, decimal, spelled}
+use Rattle.writing.specs.Spelling.{spelled_length}
 use Rattle.writing.proofs.Buffers.{Wrote, from, back, wrote, wrote_as, wrote_more, wrote_byte, wrote_length, put-before}
 use Rattle.showing.specs.Fields.{field, fields_on}
 
@@ -32,6 +34,23 @@ goes_field piece {out} {part} {most} {at} {n} few ensured = record {
   wrote = λ text buffer w room. wrote_as (append_assoc text (9 ∷ []) piece) (wrote_more (wrote_byte 9 w (omega arith)) (wrote ensured));
   few = omega (arith, ensured.0);
 }
+
+-- a field in the room that it takes: its text and the tab
+pub field_size : (text : List ℕ) → length (field text) ≡ length text + 1
+unfolding field
+field_size text = omega arith
+
+pub goes_whole : (text : List ℕ) {out part : List ℕ} {at n : ℕ} → (n ≡ length text) × (part ≡ put text (from (at + 1) (set out at 9)))
+    → Goes (field text) (length (field text)) at out (at + 1 + n) (back (at + 1) (set out at 9) part)
+goes_whole text ensured = rw (field_size text) (goes_field text (omega arith) ensured)
+
+-- a name's field has 33 bytes at most
+pub name_most : (name : Name) → length (field (spelled name)) ≤ 33
+name_most name = omega (arith, field_size (spelled name), spelled_length name)
+
+-- what goes on by few bytes goes on by no more than many
+pub goes_within : {piece before after : List ℕ} {few many at next : ℕ} → few ≤ many → Goes piece few at before next after → Goes piece many at before next after
+goes_within most goes = record { wrote = λ text buffer w room. goes.wrote text buffer w (omega (arith, room)); few = omega (arith, goes.few) }
 
 -- the LF
 pub goes_end : {out : List ℕ} {at : ℕ} → Goes (bytes "\n") 1 at out (at + 1) (set out at 10)

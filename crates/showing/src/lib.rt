@@ -23,10 +23,10 @@ pub fn number_field(out: &mut [u8], at: usize, number: u64) -> usize
     from + write_decimal(&mut out[from..], number)
 }
 
-// Writes a name's field from a place on, and answers the place past it.
+// Writes a name's field from a place on, in the room that it takes, and answers the place past it.
 pub fn name_field(out: &mut [u8], at: usize, name: Name) -> usize
-    requires { at + 33 ≤ length out.old }
-    ensures { Goes (field (spelled name)) 33 at out.old result out.new }
+    requires { at + length (field (spelled name)) ≤ length out.old }
+    ensures { Goes (field (spelled name)) (length (field (spelled name))) at out.old result out.new }
 {
     out[at] = b'\t';
     let from = at + 1;
@@ -49,10 +49,8 @@ fn number_fields(out: &mut [u8], at: usize, numbers: &[u64]) -> usize
     ensures { GoesOn numbers.now (21 * length numbers.now) at out.old result out.new }
 {
     let mut to = at;
-    let mut i = 0;
-    while i < numbers.len() {
-        to = number_field(out, to, numbers[i]);
-        i += 1;
+    for number in numbers {
+        to = number_field(out, to, *number);
     }
     to
 }

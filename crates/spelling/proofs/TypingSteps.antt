@@ -12,7 +12,7 @@ use Rattle.text.specs.Forms.{bytes}
 use Rattle.tables.specs.Names.{row_of, rows}
 use Rattle.tables.specs.NameLaws.{rows_length}
 use Rattle.writing.specs.Written.{spelled}
-use Rattle.spelling.specs.TypingText.{names_from, joined_after, joined, set_text, label_text, row_text, rows_text, typing_text}
+use Rattle.spelling.specs.TypingText.{names_from, joined_after, joined, set_text, row_text, rows_text, typing_text}
 use Rattle.spelling.specs.TypingPieces.{member_text, label_field, field_text}
 use Rattle.spelling.specs.Growth.{Grows}
 

@@ -1,4 +1,5 @@
 // The text of a typing over a policy's role names: how long it is, and putting it into a lent buffer, a line at a time.
+// A length stands beside each writer, and no sink over both: a writer is handed the part of the buffer still free, as document 01 has it, and has room there by the length.
 #![tactic(auto)]
 
 ghost use Rattle.std.specs.Prelude.{Bool, true, ◌≡◌, ◌*◌, ◌≤◌, ◌<◌, length, drop};
@@ -42,13 +43,12 @@ fn set_length(roles: &[u64], count: usize, set: RoleSet) -> usize
 {
     let mut some = false;
     let mut at: usize = 0;
-    let mut left = set;
-    let mut role = set.lowest();
-    while role < count {
+    for role in set.roles() {
+        if count <= role {
+            break;
+        }
         at += member_length(tables::row(roles, role), some);
         some = true;
-        left = left.without(role);
-        role = left.lowest();
     }
     if some {
         return at;
@@ -63,13 +63,12 @@ pub fn write_set(out: &mut [u8], roles: &[u64], count: usize, set: RoleSet) -> u
 {
     let mut some = false;
     let mut at: usize = 0;
-    let mut left = set;
-    let mut role = set.lowest();
-    while role < count {
+    for role in set.roles() {
+        if count <= role {
+            break;
+        }
         at += write_member(&mut out[at..], tables::row(roles, role), some);
         some = true;
-        left = left.without(role);
-        role = left.lowest();
     }
     if some {
         return at;
@@ -132,12 +131,10 @@ pub fn text_length(roles: &[u64], count: usize, t: Typing) -> usize
     ensures { result ≡ length (typing_text (rows count roles.now) t) }
 {
     let mut total = 9;
-    let mut role = 0;
-    while role < count {
+    for role in 0..count {
         let plus = t.plus[role];
         let minus = t.minus[role];
         total += row_length(roles, count, role, plus, minus);
-        role += 1;
     }
     total + 4
 }
@@ -148,13 +145,11 @@ pub fn write_typing(out: &mut [u8], roles: &[u64], count: usize, t: Typing) -> u
     ensures { (result ≡ length (typing_text (rows count roles.now) t)) × (out.new ≡ put (typing_text (rows count roles.now) t) out.old) }
 {
     let mut at = write_bytes(out, b"typing\t1\n");
-    let mut role = 0;
-    while role < count {
+    for role in 0..count {
         let label = t.labels[role];
         let plus = t.plus[role];
         let minus = t.minus[role];
         at += write_row(&mut out[at..], roles, count, role, label, plus, minus);
-        role += 1;
     }
     at + write_bytes(&mut out[at..], b"end\n")
 }

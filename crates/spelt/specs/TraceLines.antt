@@ -1,6 +1,6 @@
 -- The lines of a trace: each is judged good exactly when it is spelt so, after the lines above it.
 use Prim.Native.Nat.{ℕ, suc, ◌-◌, ◌<◌}
-use Rattle.std.specs.Prelude.{Bool, cond, not, ◌&&◌, ◌↔◌, ◌≡◌, leb, eqb, length}
+use Rattle.std.specs.Prelude.{Bool, cond, not, ◌&&◌, ◌↔◌, ◌≡◌, Result, Ok, leb, eqb, length}
 use Rattle.std.proofs.Math.Bool.{true, false, and-eq-true_iff}
 use Rattle.std.proofs.Common.{true≢false, sym, ◌∙◌}
 use Rattle.std.proofs.lemmas.Bool.{false≢true}
@@ -15,17 +15,16 @@ use Rattle.text.specs.Forms.{bytes, every, is_name, is_label, number_of}
 use Rattle.text.specs.Pieces.{split, onto, same_bytes, parted}
 use Rattle.text.specs.PieceLaws.{same_equal, equal_same, split-parted}
 use Rattle.fields.specs.Fields.{placed, is_declared}
+use Rattle.walking.specs.declared.Fault.{Fault}
 use Rattle.walking.specs.Texts.{Judged, goes, ends, bad}
-use Rattle.walking.specs.Turns.{in_turn}
-use Rattle.walking.specs.TurnLaws.{turn_cases}
-use Rattle.walking.specs.Evidence.{tests_within}
 use Rattle.writing.specs.Written.{decimal}
 use Rattle.spelling.specs.TypingText.{label_text}
 use Rattle.steps.specs.declared.Step.{Step}
 use Rattle.steps.specs.Places.{At}
 use Rattle.steps.proofs.PlaceLaws.{at_listed}
 use Rattle.traces.specs.declared.TraceLine.{TraceLine}
-use Rattle.traces.specs.TraceLines.{Line, two_fields, three_fields, four_fields, line_of, is_step, step_named, step_formed, step_known, step_within, step_said, no_name, name_brought, judged, trace_line}
+use Rattle.traces.specs.TraceLines.{Line, two_fields, three_fields, four_fields, line_of, is_step, step_named, step_formed, step_known, step_within, step_said, no_name, name_brought, nameless, comes_to, judged, trace_line}
+use Rattle.traces.specs.TraceLineLaws.{comes_cases}
 use Rattle.traces.specs.TraceLines as lines
 use Rattle.traces.specs.TraceText.{Traced, untraced, begun, with_name, stepped, header_line, answered, later_line, judge_line}
 use Rattle.rereading.specs.Cuts.{free, free_name}
@@ -146,10 +145,10 @@ module _ {users : List (List ℕ)} (all : Names users) where
         rw ((declared_exact all actor_form).1 (at_listed said.is_actor), (declared_exact all user_form).1 (at_listed said.is_user), digits.value, le-leb (suc rule) rules said.is_rule)
 
     step_is : (make : ℕ → ℕ → ℕ → Step)
-        → in_turn TraceLine.Bad (tests_within (is_step said.actor_name (decimal (suc rule)) said.user_name) (step_named rules (map packed users) said.actor_name (decimal (suc rule)) said.user_name) true)
-        (TraceLine.Step (make (placed (map packed users) said.actor_name) (number_of (decimal (suc rule)) - 1) (placed (map packed users) said.user_name)) no_name)
-        ≡ TraceLine.Step (make actor rule user) no_name
-    unfolding in_turn
+        → comes_to (is_step said.actor_name (decimal (suc rule)) said.user_name) (step_named rules (map packed users) said.actor_name (decimal (suc rule)) said.user_name) true
+        (nameless (make (placed (map packed users) said.actor_name) (number_of (decimal (suc rule)) - 1) (placed (map packed users) said.user_name)))
+        ≡ Ok (nameless (make actor rule user))
+    unfolding comes_to
     step_is make =
         let less : suc rule - 1 ≡ rule = omega arith in
         rw (step_formed_lem, step_named_lem, ((placed_exact all actor_form actor).1 said.is_actor).0, ((placed_exact all user_form user).1 said.is_user).0, digits.value, less)
@@ -230,8 +229,8 @@ module _ (assigns revokes : ℕ) {names : List (List ℕ)} (all : Names names) w
   step_means : (steps : List Step) (line : List ℕ) → Means steps line (answered (tracing names steps) (trace_line assigns revokes (map packed names) line))
   unfolding Means answered trace_line judged
   step_means steps line =
-      turn_cases (λ (a : TraceLine). Means steps line (answered (tracing names steps) a)) TraceLine.Bad _ _ (λ k f. tt)
-      (λ passed. adds (line_spelt line (kind (split 9 line)) (split-parted 9 line) passed.0 passed.1.0 passed.1.1.0))
+      comes_cases (λ (a : Result TraceLine Fault). Means steps line (answered (tracing names steps) a)) _ _ _ _ (λ fault. tt)
+      (λ formed known within. adds (line_spelt line (kind (split 9 line)) (split-parted 9 line) formed known within))
     where
       adds : {step : Step} {name : Name} → Spelt line step name → Adds assigns revokes names steps line (stepped (tracing names steps) step name)
       adds {step} {name} s = record { step = step; more = s.more; spelt = s.spelt; leads = λ i. record { started = true; names = s.knows i; steps = steps ++ (step ∷ []) } }
@@ -254,11 +253,11 @@ module _ (assigns revokes : ℕ) {names : List (List ℕ)} (all : Names names) w
   -- the name that a step's line brings
   record Brings (line : List ℕ) (step : Step) (more : List (List ℕ)) : Type 0 where
     name : Name
-    is : trace_line assigns revokes (map packed names) line ≡ TraceLine.Step step name
+    is : trace_line assigns revokes (map packed names) line ≡ Ok (record { step = step; name = name })
     knows : with_name (map packed names) step name ≡ map packed more
 
   -- by the fields of the line
-  by_fields : {fields : List (List ℕ)} (line : List ℕ) {answer : TraceLine} → split 9 line ≡ fields → judged assigns revokes (map packed names) (line_of fields) ≡ answer → trace_line assigns revokes (map packed names) line ≡ answer
+  by_fields : {fields : List (List ℕ)} (line : List ℕ) {answer : Result TraceLine Fault} → split 9 line ≡ fields → judged assigns revokes (map packed names) (line_of fields) ≡ answer → trace_line assigns revokes (map packed names) line ≡ answer
   unfolding trace_line
   by_fields line cut is = ap (λ (f : List (List ℕ)). judged assigns revokes (map packed names) (line_of f)) cut ∙ is
 
@@ -276,7 +275,7 @@ module _ (assigns revokes : ℕ) {names : List (List ℕ)} (all : Names names) w
 
   -- a step's line is its step
   step_line : {line : List ℕ} {step : Step} {more : List (List ℕ)} → StepSpelt assigns revokes names line step more → Brings line step more
-  unfolding line_of two_fields three_fields four_fields same_bytes judged step_formed step_known step_within step_said name_brought with_name free every in_turn
+  unfolding line_of two_fields three_fields four_fields same_bytes judged step_formed step_known step_within step_said name_brought with_name free every comes_to
   step_line (assign {line} said) = record { name = no_name; is = by_fields line (step_fields all said refl) (step_is all said Step.Assign); knows = refl }
   step_line (revoke {line} said) = record { name = no_name; is = by_fields line (step_fields all said refl) (step_is all said Step.Revoke); knows = refl }
   step_line (join {name} {clearance} form none few) =
@@ -322,8 +321,8 @@ module _ (assigns revokes : ℕ) {names : List (List ℕ)} (all : Names names) w
   spelt_names (leave at) = all
 
   -- it is not `end`, which is no step
-  not_end : (line : List ℕ) {step : Step} {name : Name} → trace_line assigns revokes (map packed names) line ≡ TraceLine.Step step name → (b : Bool) → same_bytes line (bytes "end") ≡ b → b ≡ false
-  unfolding trace_line line_of judged step_formed in_turn split onto
+  not_end : (line : List ℕ) {read : TraceLine} → trace_line assigns revokes (map packed names) line ≡ Ok read → (b : Bool) → same_bytes line (bytes "end") ≡ b → b ≡ false
+  unfolding trace_line line_of judged step_formed comes_to split onto
   not_end line is true same = absurd (true≢false (cc (ap (trace_line assigns revokes (map packed names)) (same_equal line (bytes "end") same))))
   not_end line is false same = refl
 

@@ -1,6 +1,6 @@
 -- The lines of a typing: each is judged good exactly when it is spelt so, after the lines above it.
 use Prim.Native.Nat.{ℕ, suc, ◌+◌, ◌≤◌}
-use Rattle.std.specs.Prelude.{Bool, false, cond, ◌&&◌, ◌||◌, ◌↔◌, ◌≡◌, eqb}
+use Rattle.std.specs.Prelude.{Bool, false, cond, ◌&&◌, ◌||◌, ◌↔◌, ◌≡◌, eqb, Result}
 use Rattle.std.proofs.Math.Bool.{true, and-eq-true_iff}
 use Rattle.std.proofs.lemmas.Bool.{false≢true}
 use Rattle.std.proofs.Common.{true≢false, sym, ◌∙◌, arith}
@@ -18,12 +18,12 @@ use Rattle.text.specs.Pieces.{split, onto, same_bytes, parted}
 use Rattle.text.specs.PieceLaws.{same_equal, split-parted}
 use Rattle.fields.specs.Fields.{placed, all_declared, roles_of}
 use Rattle.walking.specs.Texts.{Judged, goes, ends, bad}
-use Rattle.walking.specs.Turns.{in_turn}
-use Rattle.walking.specs.TurnLaws.{turn_cases}
 use Rattle.steps.specs.Places.{At}
 use Rattle.steps.proofs.PlaceLaws.{at_listed}
 use Rattle.spelling.specs.TypingText.{label_text}
-use Rattle.typings.specs.declared.TypingLine.{TypingLine}
+use Rattle.walking.specs.declared.Fault.{Fault}
+use Rattle.typings.specs.declared.TypingEntry.{TypingEntry}
+use Rattle.typings.specs.TypingLineLaws.{tested_cases}
 use Rattle.typings.specs.TypingLines.{Line, header, row, end, other, one_field, two_fields, line_of, well_formed, named, entry, judged, typing_line}
 use Rattle.typings.specs.TypingText.{Typed, headed, rowed, added, answered, judge_line}
 use Rattle.rereading.specs.Cuts.{free, free_name}
@@ -130,7 +130,7 @@ module _ {names : List (List ℕ)} (all : Names names) (few : length names ≤ 1
   line_means : (s : Typed) (line : List ℕ) → Means s line (judge_line (map packed names) s line)
   unfolding Means judge_line answered typing_line judged added entry well_formed parted
   line_means s line =
-      turn_cases (λ (a : TypingLine). Means s line (answered s a)) TypingLine.Bad _ _ (λ k f. tt) (λ passed. go (kind (split 9 line)) (split-parted 9 line) passed.0 passed.1.0)
+      tested_cases (λ (a : Result TypingEntry Fault). Means s line (answered s a)) _ _ _ (λ fault. tt) (λ formed known. go (kind (split 9 line)) (split-parted 9 line) formed known)
     where
       table : List Name
       table = map packed names
@@ -177,7 +177,7 @@ module _ {names : List (List ℕ)} (all : Names names) (few : length names ≤ 1
 
   -- A line that adds leads on,
   pub adds_goes : {s t : Typed} {line : List ℕ} → Adds names s line t → judge_line (map packed names) s line ≡ goes t
-  unfolding judge_line answered added typing_line judged line_of entry in_turn well_formed named
+  unfolding judge_line answered added typing_line judged line_of entry well_formed named
   adds_goes {s} (first start) = ap (λ (k : ℕ). answered s (typing_line k (map packed names) (bytes "typing\t1"))) start ∙ ap (answered s) (header_good (map packed names))
   adds_goes {s} (another {place} {name} {line} {label} {plus} {minus} stage at said) =
       let table = map packed names in

@@ -1,9 +1,12 @@
--- The first element of a list that passes a test, told by its number from 1.
+-- The first element of a list that passes a test, told by its number from 1 and by its place from 0.
 use Prim.Native.Nat.{ℕ, zero, suc, ◌+◌, ◌<◌}
-use Rattle.std.specs.Prelude.{Bool, true, false, cond, ◌↔◌, ◌⊎◌, ◌≡◌, length, get_or}
+use Rattle.std.specs.Prelude.{Bool, true, false, cond, ◌↔◌, ◌⊎◌, ◌≡◌, Some, None, position, length, get_or}
 use mathlib.Core.List.{List, [], ◌∷◌}
-use Rattle.std.proofs.Common.{inl, inr, ◌∙◌}
-use Rattle.std.proofs.Math.Path.{refl}
+use Rattle.std.proofs.Common.{inl, inr, ◌∙◌, lt-ltb, le-ltb}
+use Rattle.std.proofs.Math.Path.{refl, sym}
+use Rattle.std.proofs.lemmas.List.Quantifiers.{position-Some}
+use Rattle.std.proofs.lemmas.List.Sums.{position_or_len_is}
+use Rattle.std.proofs.lemmas.Option.{none-some}
 use native.Mathlib.Omega.{arith}
 
 -- the number of the first that passes, where so many stand before the list; 0 where none does
@@ -83,4 +86,31 @@ module _ {A : Type 0} (test : A → Bool) (d : A) where
     where
       go : ((place : ℕ) × Earliest test d l place) ⊎ Nowhere test d l → first test l ≡ 0 → Nowhere test d l
       go (inl (there, found)) e = absurd (omega (arith, earliest_first l there found))
+      go (inr none) e = none
+
+  earliest_place : (l : List A) (place : ℕ) → Earliest test d l place → position test l ≡ Some place
+  earliest_place l place found =
+      let is = position_or_len_is test l place d (omega (arith, found.inside)) found.earlier (λ inside. found.passes) in
+      rw (is, lt-ltb place (length l) found.inside) refl
+
+  nowhere_place : (l : List A) → Nowhere test d l → position test l ≡ None
+  nowhere_place l none =
+      let is = position_or_len_is test l (length l) d (omega arith) none.fails (λ inside. absurd (omega arith)) in
+      rw (is, le-ltb (length l) (length l) (omega arith)) refl
+
+  -- The place is that of an element exactly when it is the first that passes.
+  pub place_some : (l : List A) (place : ℕ) → position test l ≡ Some place ↔ Earliest test d l place
+  place_some l place = (
+    λ is.
+        let (inside, passes, earlier) = position-Some test l place d is in
+        record { inside = inside; passes = passes; earlier = earlier },
+    earliest_place l place,
+  )
+
+  -- There is no place exactly when no element passes.
+  pub place_none : (l : List A) → position test l ≡ None ↔ Nowhere test d l
+  place_none l = (go (look l), nowhere_place l)
+    where
+      go : ((place : ℕ) × Earliest test d l place) ⊎ Nowhere test d l → position test l ≡ None → Nowhere test d l
+      go (inl (there, found)) e = absurd (none-some there (sym e ∙ earliest_place l there found))
       go (inr none) e = none

@@ -1,5 +1,6 @@
 -- One step and a bad state as tests, in the words of document 01, "The model" and "Verdicts and refusal numbers".
-use Rattle.std.specs.Prelude.{ℕ, zero, suc, Bool, not, ◌&&◌, cond, List, ltb}
+use Rattle.std.specs.Prelude.{ℕ, suc, Bool, not, ◌&&◌, cond, List, Option, None, option_map, option_and_then, position}
+use Rattle.std.specs.Option.{is_some}
 use Rattle.roles.specs.declared.RoleSet.{RoleSet}
 use Rattle.roles.specs.Sets.{has_role, shares_role, includes}
 use Rattle.model.specs.declared.Assign.{Assign}
@@ -7,7 +8,6 @@ use Rattle.model.specs.declared.Revoke.{Revoke}
 use Rattle.model.specs.declared.Person.{Person}
 use Rattle.model.specs.Policy.{State, person}
 use Rattle.steps.specs.declared.Found.{Found}
-use Rattle.steps.specs.First.{first}
 
 -- ---- one step
 
@@ -28,25 +28,22 @@ may_revoke rule actor user = actor.present && user.present && has_role actor.rol
 
 -- ---- a bad state
 
--- The lowest number, from 1, of a goal all of whose roles are among these; 0 where there is none.
-unfoldable pub lowest_goal : List RoleSet → RoleSet → ℕ
-lowest_goal goals roles = first (includes roles) goals
+-- The lowest number, from 1, of a goal all of whose roles are among these, where there is one.
+unfoldable pub lowest_goal : List RoleSet → RoleSet → Option ℕ
+lowest_goal goals roles = option_map suc (position (includes roles) goals)
 
--- The lowest goal that a present L person holds whole; 0 for any other.
-unfoldable pub own_goal : List RoleSet → Person → ℕ
-own_goal goals p = cond (p.present && not p.clearance) (lowest_goal goals p.roles) 0
+-- The lowest goal that a present L person holds whole; none for any other.
+unfoldable pub own_goal : List RoleSet → Person → Option ℕ
+own_goal goals p = cond (p.present && not p.clearance) (lowest_goal goals p.roles) None
 
 -- The person is present and L and holds all roles of some goal.
 unfoldable pub bad_person : List RoleSet → Person → Bool
-bad_person goals p = ltb 0 (own_goal goals p)
+bad_person goals p = is_some (own_goal goals p)
 
--- The lowest goal of the user with this number; 0 for number 0.
-unfoldable pub goal_of : State → List RoleSet → ℕ → ℕ
-goal_of σ goals zero = 0
-goal_of σ goals (suc user) = own_goal goals (person σ user)
+-- The number of the user at this place, with that user's lowest goal.
+unfoldable pub found_at : State → List RoleSet → ℕ → Option Found
+found_at σ goals user = option_map (λ goal. record { user = suc user; goal = goal }) (own_goal goals (person σ user))
 
 -- The first present L user in order who holds all roles of a goal, with that user's lowest goal.
-unfoldable pub first_bad : State → List RoleSet → Found
-first_bad σ goals =
-    let user = first (bad_person goals) σ in
-    record { user = user; goal = goal_of σ goals user }
+unfoldable pub first_bad : State → List RoleSet → Option Found
+first_bad σ goals = option_and_then (found_at σ goals) (position (bad_person goals) σ)

@@ -29,7 +29,7 @@ pub enum Step {
     },
 }
 
-// A user's number and a goal's number, both from 1; 0 where there is none.
+// A user's number and a goal's number, both from 1.
 #[derive(Clone, Copy)]
 pub struct Found {
     pub user: usize,
@@ -37,6 +37,7 @@ pub struct Found {
 }
 
 // Whether the actor may give the rule's target to the user.
+#[tactic(auto, unfolding(crate::specs::Tests::may_assign))]
 pub fn may_assign(rule: Assign, actor: Person, user: Person) -> bool
     ensures { result ≡ may_assign rule actor user }
 {
@@ -49,6 +50,7 @@ pub fn may_assign(rule: Assign, actor: Person, user: Person) -> bool
 }
 
 // Whether the actor may take the rule's target from the user.
+#[tactic(auto, unfolding(crate::specs::Tests::may_revoke))]
 pub fn may_revoke(rule: Revoke, actor: Person, user: Person) -> bool
     ensures { result ≡ may_revoke rule actor user }
 {

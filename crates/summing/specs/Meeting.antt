@@ -1,6 +1,6 @@
 -- How a function meets an outcome: by leaving the buffer, or by a text that is written where it fits.
-use Rattle.std.specs.Prelude.{ℕ, ◌<◌, ◌≤◌, Bool, cond, List, ◌≡◌, refl, length}
-use Rattle.std.proofs.Math.Bool.{true, false, and-false}
+use Rattle.std.specs.Prelude.{ℕ, ◌<◌, ◌≤◌, Bool, cond, List, Option, Some, None, ◌≡◌, refl, length}
+use Rattle.std.proofs.Math.Bool.{true, false, true≢false, and-false}
 use Rattle.std.proofs.Math.Path.{sym, ap, subst⁻¹}
 use Rattle.std.proofs.Common.{subst, ◌∙◌, arith}
 use borrow.Author.Tests.{le-leb, lt-leb}
@@ -42,20 +42,20 @@ module _ {S A : Type 0} (refusal : ℕ → ℕ → A) (go : S → Outcome A) {r 
 
 module _ (text before : List ℕ) where
   -- it is longer than the buffer
-  pub fitting_room : length before < length text → Meets (fitting (length before) text) before 0 before
+  pub fitting_room : length before < length text → Meets (fitting (length before) text) before None before
   unfolding fitting fits
   fitting_room long = meets_leaving (rw (lt-leb (length text) (length before) long))
 
   -- it is longer than 32,768 bytes
-  pub fitting_most : 32768 < length text → Meets (fitting (length before) text) before 0 before
+  pub fitting_most : 32768 < length text → Meets (fitting (length before) text) before None before
   unfolding fitting fits
   fitting_most long = meets_leaving (rw (lt-leb (length text) 32768 long, and-false))
 
   -- neither: it is written
-  pub fitting_written : length text ≤ length before → length text ≤ 32768 → {number : ℕ} {after : List ℕ} → (number ≡ length text) × (after ≡ put text before) → Meets (fitting (length before) text) before number after
+  pub fitting_written : length text ≤ length before → length text ≤ 32768 → {number : ℕ} {after : List ℕ} → (number ≡ length text) × (after ≡ put text before) → Meets (fitting (length before) text) before (Some number) after
   unfolding fitting fits answer_in buffer_after
   fitting_written room most wrote =
-      meets_as {told = writes (length text) text} (rw (le-leb (length text) (length before) room, le-leb (length text) 32768 most)) (record { answered = wrote.0; left = wrote.1 })
+      meets_as {told = writes (Some (length text)) text} (rw (le-leb (length text) (length before) room, le-leb (length text) 32768 most)) (record { answered = ap Some wrote.0; left = wrote.1 })
 
 -- no text of a typing is empty
 pub text_some : (names : List Name) (t : Table) → 0 < length (typing_text names t)
@@ -63,28 +63,28 @@ unfolding typing_text
 text_some names t = omega arith
 
 -- a text over equal names
-pub met_named : {names names' : List Name} → names ≡ names' → (t : Table) (room : ℕ) {before after : List ℕ} {number : ℕ} → Meets (fitting room (typing_text names t)) before number after
-    → Meets (fitting room (typing_text names' t)) before number after
-met_named same t room {before} {after} {number} met = subst (λ (names : List Name). Meets (fitting room (typing_text names t)) before number after) same met
+pub met_named : {names names' : List Name} → names ≡ names' → (t : Table) (room : ℕ) {before after : List ℕ} {written : Option ℕ} → Meets (fitting room (typing_text names t)) before written after
+    → Meets (fitting room (typing_text names' t)) before written after
+met_named same t room {before} {after} {written} met = subst (λ (names : List Name). Meets (fitting room (typing_text names t)) before written after) same met
 
--- An answer by the length that is written, where no text has the length 0.
-module _ {A : Type 0} (room : ℕ) (text : List ℕ) (some : 0 < length text) {before after : List ℕ} {number : ℕ} (success refusal : A) where
+-- An answer by the length that is written.
+module _ {A : Type 0} (room : ℕ) (text : List ℕ) {before after : List ℕ} {written : Option ℕ} (success refusal : A) (met : Meets (fitting room text) before written after) where
   -- nothing is written
-  pub none_written : Meets (fitting room text) before number after → number ≡ 0 → Meets (cond (fits room text) (writes success text) (leaves refusal)) before refusal after
+  pub none_written : written ≡ None → Meets (cond (fits room text) (writes success text) (leaves refusal)) before refusal after
   unfolding fitting answer_in buffer_after
-  none_written met none = go (fits room text) met.answered met.left
+  none_written none = go (fits room text) met.answered met.left
     where
-      go : (b : Bool) → number ≡ answer_in (cond b (writes (length text) text) (leaves 0)) → after ≡ buffer_after (cond b (writes (length text) text) (leaves 0)) before
+      go : (b : Bool) → written ≡ answer_in (cond b (writes (Some (length text)) text) (leaves None)) → after ≡ buffer_after (cond b (writes (Some (length text)) text) (leaves None)) before
           → Meets (cond b (writes success text) (leaves refusal)) before refusal after
-      go true number_is after_is = absurd (omega arith)
-      go false number_is after_is = record { answered = refl; left = after_is }
+      go true is after_is = absurd (true≢false (cc))
+      go false is after_is = record { answered = refl; left = after_is }
 
   -- the text is written
-  pub all_written : Meets (fitting room text) before number after → (number ≡ 0 → ⊥) → {answer : A} → (number ≡ length text → answer ≡ success) → Meets (cond (fits room text) (writes success text) (leaves refusal)) before answer after
+  pub all_written : {number : ℕ} → written ≡ Some number → {answer : A} → (number ≡ length text → answer ≡ success) → Meets (cond (fits room text) (writes success text) (leaves refusal)) before answer after
   unfolding fitting answer_in buffer_after
-  all_written met Some-written {answer} is = go (fits room text) met.answered met.left
+  all_written {number} some {answer} is = go (fits room text) met.answered met.left
     where
-      go : (b : Bool) → number ≡ answer_in (cond b (writes (length text) text) (leaves 0)) → after ≡ buffer_after (cond b (writes (length text) text) (leaves 0)) before
+      go : (b : Bool) → written ≡ answer_in (cond b (writes (Some (length text)) text) (leaves None)) → after ≡ buffer_after (cond b (writes (Some (length text)) text) (leaves None)) before
           → Meets (cond b (writes success text) (leaves refusal)) before answer after
-      go true number_is after_is = record { answered = is number_is; left = after_is }
-      go false number_is after_is = absurd (Some-written number_is)
+      go true length_is after_is = record { answered = is (cc); left = after_is }
+      go false length_is after_is = absurd (true≢false (cc))

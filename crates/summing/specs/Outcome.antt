@@ -1,5 +1,5 @@
 -- What sum and merge answer, and what the lent buffer then holds: every answer but success leaves it as it was.
-use Rattle.std.specs.Prelude.{ℕ, Bool, cond, ◌&&◌, List, ◌≡◌, leb, length}
+use Rattle.std.specs.Prelude.{ℕ, Bool, cond, ◌&&◌, List, Option, Some, None, ◌≡◌, leb, length}
 use Rattle.walking.specs.Texts.{Reading, read, refused}
 use Rattle.writing.specs.Written.{put}
 
@@ -26,9 +26,9 @@ when_read refusal (refused number line) go = leaves (refusal number line)
 unfoldable pub fits : (room : ℕ) → List ℕ → Bool
 fits room text = leb (length text) room && leb (length text) 32768
 
--- A text written where it fits, with its length as the answer; 0, which is the length of no text, where it does not fit.
-unfoldable pub fitting : (room : ℕ) → List ℕ → Outcome ℕ
-fitting room text = cond (fits room text) (writes (length text) text) (leaves 0)
+-- A text written where it fits, with its length as the answer; no length where it does not fit.
+unfoldable pub fitting : (room : ℕ) → List ℕ → Outcome (Option ℕ)
+fitting room text = cond (fits room text) (writes (Some (length text)) text) (leaves None)
 
 -- An answer, and the buffer before and after it, are what the outcome says.
 pub record Meets {A : Type 0} (outcome : Outcome A) (before : List ℕ) (answer : A) (after : List ℕ) : Type 0 where

@@ -1,5 +1,5 @@
 -- How the outcome of sum follows from what is read and written.
-use Rattle.std.specs.Prelude.{ℕ, List, ◌≡◌, length}
+use Rattle.std.specs.Prelude.{ℕ, List, Option, Some, None, ◌≡◌, length}
 use Rattle.std.proofs.Math.Path.{sym}
 use Rattle.std.proofs.Common.{ap₂, ◌∙◌}
 use Rattle.model.specs.declared.Typing.{Typing as Table}
@@ -9,27 +9,26 @@ use Rattle.reading.specs.Policy.{Said, read_policy}
 use Rattle.typings.specs.TypingText.{Typed, read_typing, table_of}
 use Rattle.judging.specs.Verdict.{pinned_names}
 use Rattle.spelling.specs.TypingText.{typing_text}
-use Rattle.summing.specs.declared.SumAnswer.{SumAnswer}
 use Rattle.summing.specs.Sums.{sum_of}
 use Rattle.summing.specs.Outcome.{leaves, fitting, Meets}
-use Rattle.summing.specs.Meeting.{when_read_lem, when_refused, text_some, none_written, all_written}
-use Rattle.summing.specs.Sum.{sum_written, sum_outcome}
+use Rattle.summing.specs.Meeting.{when_read_lem, when_refused, none_written, all_written}
+use Rattle.summing.specs.Sum.{sum_made, sum_refused, sum_written, sum_outcome}
 
 -- ---- the texts
 
 module _ (policy first second : List ℕ) (room : ℕ) where
   -- the policy is refused, or the first typing, or the second
-  pub sum_policy_refused : {k n : ℕ} → read_policy policy ≡ refused k n → sum_outcome policy first second room ≡ leaves (SumAnswer.Refused 1 k n)
+  pub sum_policy_refused : {k n : ℕ} → read_policy policy ≡ refused k n → sum_outcome policy first second room ≡ leaves (sum_refused 1 k n)
   unfolding sum_outcome
   sum_policy_refused is = when_refused _ _ is
 
   module _ {s : Said} (is : read_policy policy ≡ read s) where
-    pub sum_first_refused : {k n : ℕ} → read_typing s.roles first ≡ refused k n → sum_outcome policy first second room ≡ leaves (SumAnswer.Refused 2 k n)
+    pub sum_first_refused : {k n : ℕ} → read_typing s.roles first ≡ refused k n → sum_outcome policy first second room ≡ leaves (sum_refused 2 k n)
     unfolding sum_outcome
     sum_first_refused one = when_read_lem _ _ is ∙ when_refused _ _ one
 
     module _ {t : Typed} (one : read_typing s.roles first ≡ read t) where
-      pub sum_second_refused : {k n : ℕ} → read_typing s.roles second ≡ refused k n → sum_outcome policy first second room ≡ leaves (SumAnswer.Refused 3 k n)
+      pub sum_second_refused : {k n : ℕ} → read_typing s.roles second ≡ refused k n → sum_outcome policy first second room ≡ leaves (sum_refused 3 k n)
       unfolding sum_outcome
       sum_second_refused two = when_read_lem _ _ is ∙ when_read_lem _ _ one ∙ when_refused _ _ two
 
@@ -41,13 +40,13 @@ module _ (policy first second : List ℕ) (room : ℕ) where
 
 -- ---- the text of the sum
 
-module _ (names : List Name) (t : Table) (room : ℕ) {before after : List ℕ} {number : ℕ} (met : Meets (fitting room (typing_text names t)) before number after) where
+module _ (names : List Name) (t : Table) (room : ℕ) {before after : List ℕ} {written : Option ℕ} (met : Meets (fitting room (typing_text names t)) before written after) where
   -- it does not fit
-  pub sum_unwritten : number ≡ 0 → Meets (sum_written room names t) before (SumAnswer.Refused 0 18 0) after
+  pub sum_unwritten : written ≡ None → Meets (sum_written room names t) before (sum_refused 0 18 0) after
   unfolding sum_written
-  sum_unwritten none = none_written room (typing_text names t) (text_some names t) _ _ met none
+  sum_unwritten none = none_written room (typing_text names t) _ _ met none
 
   -- it is written
-  pub sum-written : (number ≡ 0 → ⊥) → {pinned : ℕ} → pinned ≡ pinned_names t (length names) → Meets (sum_written room names t) before (SumAnswer.Summed pinned number) after
+  pub sum-written : {number : ℕ} → written ≡ Some number → {pinned : ℕ} → pinned ≡ pinned_names t (length names) → Meets (sum_written room names t) before (sum_made pinned number) after
   unfolding sum_written
-  sum-written some many = all_written room (typing_text names t) (text_some names t) _ _ met some (ap₂ SumAnswer.Summed many)
+  sum-written some many = all_written room (typing_text names t) _ _ met some (ap₂ sum_made many)

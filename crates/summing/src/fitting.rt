@@ -7,18 +7,18 @@ ghost use Rattle.summing.specs.Outcome.{Meets, fitting};
 use model::Typing;
 use spelling::{text_length, write_typing};
 
-// The length of the typing's text, which stands in the buffer then; or 0, where the text is longer than the buffer or than
-// 32,768 bytes and nothing is written.
-pub fn write_fitting(out: &mut [u8], roles: &[u64], count: usize, t: Typing) -> usize
+// The length of the typing's text, which stands in the buffer then; none where the text is longer than the buffer or than
+// 32,768 bytes, and nothing is written.
+pub fn write_fitting(out: &mut [u8], roles: &[u64], count: usize, t: Typing) -> Option<usize>
     requires { (4 * count ≤ length roles.now) × (count ≤ 128) }
     ensures { Meets (fitting (length out.old) (typing_text (rows count roles.now) t)) out.old result out.new }
 {
     let length = text_length(roles, count, t);
     if out.len() < length {
-        return 0;
+        return None;
     }
     if 32768 < length {
-        return 0;
+        return None;
     }
-    write_typing(out, roles, count, t)
+    Some(write_typing(out, roles, count, t))
 }

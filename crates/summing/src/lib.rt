@@ -5,9 +5,8 @@ ghost use Rattle.std.specs.Prelude.{◌≡◌, length, ◌*◌, ◌≤◌};
 ghost use Rattle.tables.specs.Names.{rows};
 ghost use Rattle.ledgers.specs.Ledger.{ledger_words};
 ghost use Rattle.ledgers.specs.Memory.{no_memory, in_memory, Spared};
-ghost use Rattle.summing.specs.declared.SumAnswer.{SumAnswer};
 ghost use Rattle.summing.specs.Outcome.{leaves, Meets};
-ghost use Rattle.summing.specs.Sum.{sum_written, sum_outcome};
+ghost use Rattle.summing.specs.Sum.{sum_refused, sum_written, sum_outcome};
 ghost use Rattle.summing.specs.Sums.{sum_of};
 
 use crate::fitting::write_fitting;
@@ -16,16 +15,22 @@ use ledgers::{NO_MEMORY, WORDS};
 use model::Typing;
 use reading::read_policy;
 use typings::read_typing;
+use walking::Refusal;
 
 pub mod fitting;
 
-// The answer of sum.
-#[derive(Clone, Copy)]
-pub enum SumAnswer {
-    // the pinned names, and the length of the text
-    Summed(usize, usize),
-    // which text it speaks of, 1 policy, 2 first typing, 3 second typing, 0 none; the refusal's number and line
-    Refused(usize, u64, usize),
+// A sum that is written: how many names it pins, and the length of its text.
+#[derive(Clone, Copy, PartialEq, Eq)]
+pub struct Summed {
+    pub pinned: usize,
+    pub length: usize,
+}
+
+// Why no sum is written: the refusal, and which text it speaks of, 1 policy, 2 first typing, 3 second typing, 0 none.
+#[derive(Clone, Copy, PartialEq, Eq)]
+pub struct SumRefused {
+    pub text: usize,
+    pub refusal: Refusal,
 }
 
 // The sum of two typings: a label is H when either is H, and plus and minus sets are unions.
@@ -33,63 +38,63 @@ pub fn sum_of(t: Typing, u: Typing) -> Typing
     ensures { result ≡ sum_of t u }
 {
     let mut s = t;
-    let mut role = 0;
-    while role < 128 {
-        let plus = s.plus[role];
-        let more = u.plus[role];
-        let minus = s.minus[role];
-        let less = u.minus[role];
-        s.labels[role] = s.labels[role] | u.labels[role];
-        s.plus[role] = plus.union(more);
-        s.minus[role] = minus.union(less);
-        role += 1;
+    for role in 0..128 {
+        s.labels[role] |= u.labels[role];
+        s.plus[role] = s.plus[role].union(u.plus[role]);
+        s.minus[role] = s.minus[role].union(u.minus[role]);
     }
     s
 }
 
 // The sum of two typings over so many role names, written where its text fits; 18 where it does not.
-fn write_sum(names: &[u64], roles: usize, t: Typing, out: &mut [u8]) -> SumAnswer
+fn write_sum(names: &[u64], roles: usize, t: Typing, out: &mut [u8]) -> Result<Summed, SumRefused>
     requires { (4 * roles ≤ length names.now) × (roles ≤ 128) }
     ensures { Meets (sum_written (length out.old) (rows roles names.now) t) out.old result out.new }
 {
-    let length = write_fitting(out, names, roles, t);
-    if length == 0 {
-        return SumAnswer::Refused(0, 18, 0);
+    match write_fitting(out, names, roles, t) {
+        Some(length) => Ok(Summed {
+            pinned: pinned(t, roles),
+            length,
+        }),
+        None => Err(SumRefused {
+            text: 0,
+            refusal: Refusal {
+                number: 18,
+                line: 0,
+            },
+        }),
     }
-    SumAnswer::Summed(pinned(t, roles), length)
 }
 
 // The sum of two typings over a policy, written into the lent buffer; the policy is read into a lent ledger.
+// Each text is taken by its case: `map_err` would hand a typing of 4 KB, which stands in this frame, through one more.
 fn sum_with(
     policy: &[u8],
     first: &[u8],
     second: &[u8],
     out: &mut [u8],
     ledger: &mut [u64],
-) -> SumAnswer
+) -> Result<Summed, SumRefused>
     requires { ledger_words ≤ length ledger.old }
     ensures { Meets (sum_outcome policy.now first.now second.now (length out.old)) out.old result out.new }
 {
-    let p = read_policy(policy, ledger);
-    if p.refusal != 0 {
-        return SumAnswer::Refused(1, p.refusal, p.line);
-    }
-    let roles = p.counts.roles;
-    let one = read_typing(first, ledger, roles);
-    if one.refusal != 0 {
-        return SumAnswer::Refused(2, one.refusal, one.line);
-    }
-    let two = read_typing(second, ledger, roles);
-    if two.refusal != 0 {
-        return SumAnswer::Refused(3, two.refusal, two.line);
-    }
-    let t = one.typing;
-    let u = two.typing;
+    let roles = match read_policy(policy, ledger) {
+        Ok(counts) => counts.roles,
+        Err(refusal) => return Err(SumRefused { text: 1, refusal }),
+    };
+    let t = match read_typing(first, ledger, roles) {
+        Ok(typing) => typing,
+        Err(refusal) => return Err(SumRefused { text: 2, refusal }),
+    };
+    let u = match read_typing(second, ledger, roles) {
+        Ok(typing) => typing,
+        Err(refusal) => return Err(SumRefused { text: 3, refusal }),
+    };
     write_sum(ledger, roles, sum_of(t, u), out)
 }
 
 // The sum of two typings over a policy, written into the lent buffer.
-pub fn sum(policy: &[u8], first: &[u8], second: &[u8], out: &mut [u8]) -> SumAnswer
+pub fn sum(policy: &[u8], first: &[u8], second: &[u8], out: &mut [u8]) -> Result<Summed, SumRefused>
     ensures { Meets (sum_outcome policy.now first.now second.now (length out.old)) out.old result out.new }
 {
     let mut ledger = [0u64; WORDS];
@@ -103,12 +108,18 @@ pub fn sum_in(
     second: &[u8],
     out: &mut [u8],
     memory: &mut [u64],
-) -> SumAnswer
-    ensures meets { Meets (in_memory ledger_words (length memory.old) (leaves (SumAnswer.Refused 0 no_memory 0)) (sum_outcome policy.now first.now second.now (length out.old))) out.old result out.new }
+) -> Result<Summed, SumRefused>
+    ensures meets { Meets (in_memory ledger_words (length memory.old) (leaves (sum_refused 0 no_memory 0)) (sum_outcome policy.now first.now second.now (length out.old))) out.old result out.new }
     ensures spared { Spared ledger_words memory.old memory.new }
 {
     if memory.len() < WORDS {
-        return SumAnswer::Refused(0, NO_MEMORY, 0);
+        return Err(SumRefused {
+            text: 0,
+            refusal: Refusal {
+                number: NO_MEMORY,
+                line: 0,
+            },
+        });
     }
     sum_with(policy, first, second, out, &mut memory[..WORDS])
 }

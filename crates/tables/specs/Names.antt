@@ -1,5 +1,5 @@
 -- A name packed into four 64-bit words, tables of packed names, and where a name stands in one.
-use Rattle.std.specs.Prelude.{ℕ, zero, suc, ◌+◌, ◌*◌, Bool, cond, ◌&&◌, List, [], ◌∷◌, eqb, get_or, take, drop}
+use Rattle.std.specs.Prelude.{ℕ, zero, suc, ◌+◌, ◌*◌, Bool, cond, ◌&&◌, List, [], ◌∷◌, eqb, ltb, length, get_or, take, drop, Option, Some, None}
 use Rattle.tables.specs.declared.Name.{Name}
 
 -- bytes as one number, the first byte lowest
@@ -24,6 +24,10 @@ same_name m n = eqb m.first n.first && eqb m.second n.second && eqb m.third n.th
 unfoldable pub place_of : List Name → Name → ℕ
 place_of [] name = 0
 place_of (first ∷ rest) name = cond (same_name first name) 0 (suc (place_of rest name))
+
+-- the place of a name, if it stands among the names
+unfoldable pub found_in : List Name → Name → Option ℕ
+found_in names name = cond (ltb (place_of names name) (length names)) (Some (place_of names name)) None
 
 -- the name at a place, from 0; the name of no bytes where there is none
 unfoldable pub name_at : List Name → ℕ → Name

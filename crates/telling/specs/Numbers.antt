@@ -4,11 +4,11 @@ use Rattle.tables.specs.declared.Name.{Name}
 use Rattle.tables.specs.Padded.{padded}
 use Rattle.places.specs.declared.BadPlace.{BadPlace}
 use Rattle.writing.specs.Written.{put}
-use Rattle.summing.specs.declared.SumAnswer.{SumAnswer}
+use Rattle.summing.specs.Sum.{SumAnswer}
 use Rattle.summing.specs.Sum as sum
 use Rattle.merging.specs.declared.MergeAnswer.{MergeAnswer}
 use Rattle.merging.specs.Merge as merge
-use Rattle.scribing.specs.declared.SpellAnswer.{SpellAnswer}
+use Rattle.scribing.specs.Spell.{SpellAnswer}
 use Rattle.scribing.specs.Spell as spell
 use Rattle.answering.specs.declared.Answer.{Answer}
 use Rattle.answering.specs.Answers.{values_of}

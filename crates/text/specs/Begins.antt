@@ -1,12 +1,20 @@
 -- A byte string begins with another, as a text with its header.
-use Rattle.std.specs.Prelude.{ℕ, ◌<◌, Bool, true, false, ◌&&◌, List, [], ◌∷◌, ◌++◌, ◌≡◌, refl, length, take, drop}
+use Rattle.std.specs.Prelude.{ℕ, ◌<◌, Bool, true, false, ◌&&◌, List, [], ◌∷◌, ◌++◌, ◌≡◌, refl, eqb, length, take, drop}
 use Rattle.std.proofs.Common.{sym, ap, ap₂, ◌∙◌, eq-eqb, length-take, take-append-drop, arith}
+use lib.Pointwise.{pointwise, bytes_decides}
 use Rattle.text.specs.Pieces.{same_bytes}
-use Rattle.text.specs.PieceLaws.{same_equal}
+use Rattle.text.specs.PieceLaws.{same_answer, same_equal}
 
 -- The byte string begins with these bytes.
 unfoldable pub begins : (start s : List ℕ) → Bool
 begins start s = same_bytes (take (length start) s) start
+
+-- it does where they are the first bytes, one by one
+pub begins_pointwise : (start s : List ℕ) → pointwise eqb start (take (length start) s) ≡ begins start s
+unfolding begins
+begins_pointwise start s =
+    let both = bytes_decides start (take (length start) s) in
+    same_answer (take (length start) s) start (pointwise eqb start (take (length start) s)) (λ e. sym (both.0 e)) (λ e. both.1 (sym e))
 
 -- a shorter one does not
 pub begins_short : (start s : List ℕ) → length s < length start → false ≡ begins start s

@@ -1,9 +1,10 @@
 -- The forms of names, sets and numbers, from what a reader finds on its way.
-use Rattle.std.specs.Prelude.{ℕ, zero, suc, ◌+◌, ◌-◌, ◌*◌, ◌^◌, ◌≤◌, ◌<◌, Bool, true, false, not, ◌&&◌, ◌||◌, List, [], ◌∷◌, ◌++◌, ◌≡◌, refl, eqb, leb, length, get_or, take, drop}
+use Rattle.std.specs.Prelude.{ℕ, zero, suc, ◌+◌, ◌-◌, ◌*◌, ◌^◌, ◌≤◌, ◌<◌, Bool, true, false, cond, not, ◌&&◌, ◌||◌, List, [], ◌∷◌, ◌++◌, ◌≡◌, refl, eqb, leb, length, get_or, take, drop, Some, None, is_some, unwrap_or}
+use Rattle.std.specs.List.{list_all}
 use Rattle.std.proofs.Math.Bool.{and_assoc, and-false, and-eq-true_iff}
-use Rattle.std.proofs.lemmas.Bool.{false≢true, lt-leb}
+use Rattle.std.proofs.lemmas.Bool.{false≢true, not-true, eqb-false, lt-leb}
 use Rattle.std.proofs.Common.{sym, ap, ap₂, ◌∙◌, le-leb, eq-eqb, ne_eqb, leb-true, eqb-true, lit≤, drop_of_length-le, drop-cons, pow-suc, add-one, arith}
-use Rattle.text.specs.Forms.{between, decimal, every, is_name, is_number, name_byte, number_of}
+use Rattle.text.specs.Forms.{between, decimal, every, is_name, is_number, name_byte, number_of, number_in}
 
 -- ---- going through a byte string one byte at a time
 
@@ -78,6 +79,84 @@ pub number_good : (s : List ℕ) → 1 ≤ length s → length s ≤ 3 → (get_
 unfolding number_of is_number
 number_good s least most lead digits = rw (le-leb 1 (length s) least, le-leb (length s) 3 most, ne_eqb (get_or s 0 0) 48 lead, digits)
 
+-- a byte in a range
+pub in_range : (least most byte : ℕ) → between least most byte ≡ true → (least ≤ byte) × (byte ≤ most)
+unfolding between
+in_range least most byte h =
+    let parts = (and-eq-true_iff (leb least byte) (leb byte most)).0 h in
+    (leb-true least byte parts.0, leb-true byte most parts.1)
+
+-- a number written is not 0: its first digit is not
+decimal_some : (before : ℕ) (s : List ℕ) → 0 < before → 0 < decimal before s
+unfolding decimal
+decimal_some before [] some = some
+decimal_some before (digit ∷ rest) some = decimal_some (before * 10 + (digit - 48)) rest (omega arith)
+
+number_positive : (s : List ℕ) → is_number s ≡ true → 0 < decimal 0 s
+unfolding is_number decimal every
+number_positive [] form = absurd (false≢true form)
+number_positive (digit ∷ rest) form =
+    let digits = (and-eq-true_iff (leb 1 (suc (length rest)) && leb (suc (length rest)) 3 && not (eqb digit 48)) (between 48 57 digit && every (between 48 57) rest)).0 form in
+    let lead = ((and-eq-true_iff (leb 1 (suc (length rest)) && leb (suc (length rest)) 3) (not (eqb digit 48))).0 digits.0).1 in
+    let range = in_range 48 57 digit ((and-eq-true_iff (between 48 57 digit) (every (between 48 57) rest)).0 digits.1).0 in
+    let other = eqb-false digit 48 (not-true (eqb digit 48) lead) in
+    decimal_some (0 * 10 + (digit - 48)) rest (omega (arith, range, other))
+
+-- the number written, or that there is none, by the number that is 0 where none is written
+pub number_some : (s : List ℕ) {n : ℕ} → Some n ≡ number_in s → (number_of s ≡ n) × (0 < n)
+unfolding number_in number_of
+number_some s {n} written = go (is_number s) refl written
+  where
+    go : (b : Bool) → is_number s ≡ b → Some n ≡ cond b (Some (decimal 0 s)) None → (cond b (decimal 0 s) 0 ≡ n) × (0 < n)
+    go true form same = let value : decimal 0 s ≡ n = cc in (value, omega (arith, number_positive s form))
+    go false form same = absurd (cc)
+
+pub number_none : (s : List ℕ) → None ≡ number_in s → number_of s ≡ 0
+unfolding number_in number_of
+number_none s none = go (is_number s) none
+  where
+    go : (b : Bool) → None ≡ cond b (Some (decimal 0 s)) None → cond b (decimal 0 s) 0 ≡ 0
+    go true same = absurd (cc)
+    go false same = refl
+
+pub number_missing : (s : List ℕ) → number_of s ≡ 0 → None ≡ number_in s
+unfolding number_in number_of
+number_missing s none = go (is_number s) refl none
+  where
+    go : (b : Bool) → is_number s ≡ b → cond b (decimal 0 s) 0 ≡ 0 → None ≡ cond b (Some (decimal 0 s)) None
+    go true form same = absurd (omega (arith, number_positive s form, same))
+    go false form same = refl
+
+pub number_written : (s : List ℕ) → (number_of s ≡ 0 → ⊥) → Some (number_of s) ≡ number_in s
+unfolding number_in number_of
+number_written s some = go (is_number s) some
+  where
+    go : (b : Bool) → (cond b (decimal 0 s) 0 ≡ 0 → ⊥) → Some (cond b (decimal 0 s) 0) ≡ cond b (Some (decimal 0 s)) None
+    go true other = refl
+    go false other = absurd (other refl)
+
+-- whether a number is written, and the number with 0 for none
+pub number_test : (s : List ℕ) → is_some (number_in s) ≡ not (eqb (number_of s) 0)
+unfolding number_in number_of
+number_test s = go (is_number s) refl
+  where
+    go : (b : Bool) → is_number s ≡ b → is_some (cond b (Some (decimal 0 s)) None) ≡ not (eqb (cond b (decimal 0 s) 0) 0)
+    go true form = sym (ap not (ne_eqb (decimal 0 s) 0 (omega (arith, number_positive s form))))
+    go false form = refl
+
+pub number_or_zero : (s : List ℕ) → unwrap_or (number_in s) 0 ≡ number_of s
+unfolding number_in number_of
+number_or_zero s = go (is_number s)
+  where
+    go : (b : Bool) → unwrap_or (cond b (Some (decimal 0 s)) None) 0 ≡ cond b (decimal 0 s) 0
+    go true = refl
+    go false = refl
+
+-- a field in the form of a number writes what its digits write
+pub number_here : (s : List ℕ) → 1 ≤ length s → length s ≤ 3 → (get_or s 0 0 ≡ 48 → ⊥) → every (between 48 57) s ≡ true → Some (decimal 0 s) ≡ number_in s
+unfolding number_in is_number
+number_here s least most lead digits = rw (le-leb 1 (length s) least, le-leb (length s) 3 most, ne_eqb (get_or s 0 0) 48 lead, digits)
+
 -- the test of a digit
 pub digit_low : (byte : ℕ) → byte < 48 → between 48 57 byte ≡ false
 unfolding between
@@ -93,12 +172,6 @@ digit_good byte least most = rw (le-leb 48 byte least, le-leb byte 57 most)
 
 -- ---- the bytes of a name
 
-pub in_range : (least most byte : ℕ) → between least most byte ≡ true → (least ≤ byte) × (byte ≤ most)
-unfolding between
-in_range least most byte h =
-    let parts = (and-eq-true_iff (leb least byte) (leb byte most)).0 h in
-    (leb-true least byte parts.0, leb-true byte most parts.1)
-
 -- none is 0
 pub name_byte_range : (byte : ℕ) → name_byte byte ≡ true → (48 ≤ byte) × (byte ≤ 122)
 unfolding name_byte
@@ -111,6 +184,12 @@ name_byte_range byte h = go (between 65 90 byte) (between 97 122 byte) (between 
     go false false true e pb pc pd pe h = omega (arith, in_range 48 57 byte pd)
     go false false false true pb pc pd pe h = omega (arith, eqb-true byte 95 pe)
     go false false false false pb pc pd pe h = absurd (false≢true h)
+
+-- the test of each element is that of the library
+pub every_all : {A : Type 0} (test : A → Bool) (s : List A) → every test s ≡ list_all test s
+unfolding every
+every_all test [] = refl
+every_all test (a ∷ rest) = ap (λ (b : Bool). test a && b) (every_all test rest)
 
 -- of some and of others
 pub every_more {ℓ} : {A : Type ℓ} (test : A → Bool) (s t : List A) → every test (s ++ t) ≡ (every test s && every test t)

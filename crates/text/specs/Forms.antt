@@ -1,5 +1,5 @@
 -- The form of a name, a set, a label and a rule number, in the order of document 01, "The texts".
-use Rattle.std.specs.Prelude.{ℕ, ◌+◌, ◌-◌, ◌*◌, Bool, true, cond, not, ◌&&◌, ◌||◌, List, [], ◌∷◌, eqb, leb, length, get_or}
+use Rattle.std.specs.Prelude.{ℕ, ◌+◌, ◌-◌, ◌*◌, Bool, true, cond, not, ◌&&◌, ◌||◌, List, [], ◌∷◌, eqb, leb, length, get_or, Option, Some, None}
 use Prim.Native.Char.{code}
 use Prim.Native.String.{String}
 use Rattle.text.specs.Pieces.{split, same_bytes, repeated}
@@ -50,3 +50,7 @@ decimal before (digit ∷ rest) = decimal (before * 10 + (digit - 48)) rest
 -- the number written, 0 where none is
 unfoldable pub number_of : List ℕ → ℕ
 number_of s = cond (is_number s) (decimal 0 s) 0
+
+-- the number that a field writes, if it writes one
+unfoldable pub number_in : List ℕ → Option ℕ
+number_in s = cond (is_number s) (Some (decimal 0 s)) None

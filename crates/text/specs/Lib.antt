@@ -3,6 +3,7 @@ pub mod Lists
 pub mod Index
 pub mod Pieces
 pub mod PieceLaws
+pub mod Seeking
 pub mod Begins
 pub mod Repeats
 pub mod Forms

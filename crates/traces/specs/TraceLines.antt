@@ -1,12 +1,11 @@
 -- One step line of a trace: when it is malformed, when it names what it must not, and when its name is above the limit (document 01,
 -- "The texts", and document 02, CR 2).
-use Rattle.std.specs.Prelude.{ℕ, ◌-◌, Bool, true, false, cond, not, ◌&&◌, ◌||◌, List, [], ◌∷◌, leb, ltb, eqb, length}
+use Rattle.std.specs.Prelude.{ℕ, ◌-◌, Bool, true, false, cond, not, ◌&&◌, ◌||◌, List, [], ◌∷◌, Result, Ok, Err, leb, ltb, eqb, length}
 use Rattle.tables.specs.declared.Name.{Name}
 use Rattle.tables.specs.Names.{packed}
 use Rattle.text.specs.Forms.{bytes, is_name, is_label, number_of}
 use Rattle.text.specs.Pieces.{split, same_bytes}
-use Rattle.walking.specs.Turns.{in_turn}
-use Rattle.walking.specs.Evidence.{tests_within}
+use Rattle.walking.specs.declared.Fault.{Fault}
 use Rattle.steps.specs.declared.Step.{Step}
 use Rattle.fields.specs.Fields.{placed, is_declared}
 use Rattle.traces.specs.declared.TraceLine.{TraceLine}
@@ -85,6 +84,9 @@ step_said names other = Step.Assign 0 0 0
 abbrev pub no_name : Name
 no_name = packed []
 
+abbrev pub nameless : Step → TraceLine
+nameless step = record { step = step; name = no_name }
+
 unfoldable pub name_brought : Line → Name
 name_brought (assign actor number user) = no_name
 name_brought (revoke actor number user) = no_name
@@ -92,18 +94,15 @@ name_brought (join name clearance) = packed name
 name_brought (leave name) = no_name
 name_brought other = no_name
 
--- What the line comes to: malformed, then names, then the limit of names, and else its step and the name that it brings.
-unfoldable pub judged : (assigns revokes : ℕ) → List Name → Line → TraceLine
+-- What a line comes to: malformed, then names, then the limit of names, and else what it says.
+unfoldable pub comes_to : {A : Type 0} (formed known within : Bool) → A → Result A Fault
+comes_to formed known within says = cond formed (cond known (cond within (Ok says) (Err Fault.AboveLimit)) (Err Fault.Undeclared)) (Err Fault.Malformed)
+
+-- A step line comes to its step and the name that it brings.
+unfoldable pub judged : (assigns revokes : ℕ) → List Name → Line → Result TraceLine Fault
 judged assigns revokes names line =
-    in_turn TraceLine.Bad (tests_within (step_formed line) (step_known assigns revokes names line) (step_within names line)) (TraceLine.Step (step_said names line) (name_brought line))
+    comes_to (step_formed line) (step_known assigns revokes names line) (step_within names line) (record { step = step_said names line; name = name_brought line })
 
 -- A step line, judged by its fields.
-unfoldable pub trace_line : (assigns revokes : ℕ) → List Name → List ℕ → TraceLine
+unfoldable pub trace_line : (assigns revokes : ℕ) → List Name → List ℕ → Result TraceLine Fault
 trace_line assigns revokes names line = judged assigns revokes names (line_of (split 9 line))
-
--- ---- a step line, from what a reader finds
-
--- an assign step, and else a revoke step
-unfoldable pub step_of : (assigning : Bool) (actor rule user : ℕ) → Step
-step_of true actor rule user = Step.Assign actor rule user
-step_of false actor rule user = Step.Revoke actor rule user

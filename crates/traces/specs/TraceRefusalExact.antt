@@ -10,14 +10,24 @@ use Rattle.text.specs.Pieces.{split, onto, same_bytes}
 use Rattle.text.specs.PieceLaws.{same_equal}
 use Rattle.walking.specs.Texts.{goes, ends, bad, read, refused}
 use Rattle.walking.specs.Turns.{in_turn}
-use Rattle.walking.specs.TurnLaws.{turn_made, turn_passes}
+use Rattle.walking.specs.TurnLaws.{turn_passes}
 use Rattle.walking.specs.MeaningLaws.{refusal_exact, read_exact}
 use Rattle.walking.specs.Evidence.{tests_within, EvidenceReadAs}
 use Rattle.walking.specs.EvidenceLaws.{refusal_means, reading_means}
+use Rattle.traces.specs.declared.TraceLine.{TraceLine}
 use Rattle.traces.specs.TraceLines as trace
 use Rattle.traces.specs.TraceText.{Traced, untraced, begun, stepped, read_trace}
 use Rattle.traces.specs.TraceText as traces
 use Rattle.traces.specs.TraceRefusals.{trace_formed, trace_named, trace_within, trace_last, TraceRefusal}
+
+-- a line's fault has the number of the first of its tests that fails
+answered_turn : (s : Traced) (formed known within : Bool) (line : TraceLine)
+    → traces.answered s (trace.comes_to formed known within line) ≡ in_turn bad (tests_within formed known within) (goes (stepped s line.step line.name))
+unfolding traces.answered trace.comes_to in_turn
+answered_turn s true true true line = refl
+answered_turn s true true false line = refl
+answered_turn s true false within line = refl
+answered_turn s false known within line = refl
 
 module _ (assigns revokes : ℕ) where
   -- the step that a line says, and the name that it brings, after the lines above
@@ -41,7 +51,7 @@ module _ (assigns revokes : ℕ) where
   later_tells s line true is =
       let same = same_equal line (bytes "end") is in
       sym (turn_passes bad (tests_within true (trace_named assigns revokes s line) (trace_within assigns revokes s line)) ends (refl, (ap (trace_named assigns revokes s) same, (ap (trace_within assigns revokes s) same, tt))))
-  later_tells s line false is = turn_made (traces.answered s) _ _ _
+  later_tells s line false is = answered_turn s (trace.step_formed (trace.line_of (split 9 line))) (trace_named assigns revokes s line) (trace_within assigns revokes s line) _
 
   trace_tells : (s : Traced) (line : List ℕ)
       → traces.judge_line assigns revokes s line

@@ -1,9 +1,11 @@
 -- A whole trace text: the header, its steps in order, and `end`.
-use Rattle.std.specs.Prelude.{ℕ, Bool, true, false, cond, List, [], ◌∷◌, ◌++◌, ltb, length}
+use Rattle.std.specs.Prelude.{ℕ, Bool, true, false, cond, List, [], ◌∷◌, ◌++◌, Result, Ok, Err, ltb, length}
 use Rattle.tables.specs.declared.Name.{Name}
 use Rattle.text.specs.Forms.{bytes}
 use Rattle.text.specs.Pieces.{same_bytes}
 use Rattle.steps.specs.declared.Step.{Step}
+use Rattle.walking.specs.declared.Fault.{Fault}
+use Rattle.walking.specs.Faults.{evidence_number}
 use Rattle.walking.specs.Texts.{Judged, goes, ends, bad, Reading, read_text}
 use Rattle.traces.specs.declared.TraceLine.{TraceLine}
 use Rattle.traces.specs.TraceLines.{trace_line}
@@ -37,10 +39,10 @@ stepped s step name = record { started = true; names = with_name s.names step na
 unfoldable pub header_line : Traced → List ℕ → Judged Traced
 header_line s line = cond (same_bytes line (bytes "trace\t1")) (goes (begun s)) (bad 15)
 
--- A step goes after those above.
-unfoldable pub answered : Traced → TraceLine → Judged Traced
-answered s (TraceLine.Step step name) = goes (stepped s step name)
-answered s (TraceLine.Bad number) = bad number
+-- A step goes after those above; a line with a fault is refused with its number.
+unfoldable pub answered : Traced → Result TraceLine Fault → Judged Traced
+answered s (Ok line) = goes (stepped s line.step line.name)
+answered s (Err fault) = bad (evidence_number fault)
 
 -- After the header a line is `end` or a step line.
 unfoldable pub later_line : (assigns revokes : ℕ) → Traced → List ℕ → Judged Traced
@@ -53,10 +55,3 @@ judge_line assigns revokes s line = cond s.started (later_line assigns revokes s
 -- The whole text over the policy's users and rule counts: 14 where it is too long, 15 where `end` is missing or not the last line.
 unfoldable pub read_trace : (assigns revokes : ℕ) → List Name → List ℕ → Reading Traced
 read_trace assigns revokes users text = read_text (judge_line assigns revokes) 15 14 (untraced users) text
-
--- ---- as a program reads it
-
--- the refusal's number of a line that is not a step
-unfoldable pub code_of : TraceLine → ℕ
-code_of (TraceLine.Step step name) = 0
-code_of (TraceLine.Bad number) = number

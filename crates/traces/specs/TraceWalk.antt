@@ -1,5 +1,5 @@
 -- A trace gone through from line to line: at each place after the header the whole text gives what the lines from there on give.
-use Rattle.std.specs.Prelude.{ℕ, ◌+◌, ◌≤◌, ◌<◌, true, List, [], ◌∷◌, ◌++◌, ◌≡◌, refl, drop}
+use Rattle.std.specs.Prelude.{ℕ, ◌+◌, ◌≤◌, ◌<◌, true, List, [], ◌∷◌, ◌++◌, Result, Ok, Err, ◌≡◌, refl, drop}
 use Rattle.std.proofs.Math.Bool.{false}
 use Rattle.std.proofs.lemmas.Bool.{false≢true}
 use Rattle.std.proofs.Common.{sym, ◌∙◌, arith}
@@ -11,6 +11,8 @@ use Rattle.text.specs.Pieces.{split, onto, part, same_bytes, Sought}
 use Rattle.text.specs.PieceLaws.{same_answer}
 use Rattle.text.specs.Begins.{begins, begins-whole}
 use Rattle.steps.specs.declared.Step.{Step}
+use Rattle.walking.specs.declared.Fault.{Fault}
+use Rattle.walking.specs.Faults.{evidence_number}
 use Rattle.walking.specs.Texts.{ends, bad, read, refused, read_lines}
 use Rattle.walking.specs.TextLaws.{text_fits, text_long, lines_next, onward_goes}
 use Rattle.walking.specs.FirstLine.{not_begun}
@@ -82,15 +84,15 @@ module _ {assigns revokes : ℕ} {users : List Name} {text : List ℕ} {at numbe
         line_more left = on_more (judge_line assigns revokes) 15 14 (untraced users) after.on sought here judged_end left
 
       -- any other line: its answer decides
-      module _ (is_not : same_bytes (part text at stop) (bytes "end") ≡ false) {answer : TraceLine} (given : answer ≡ trace_line assigns revokes names (part text at stop)) where
-        judged_is : {told : TraceLine} → answer ≡ told → judge_line assigns revokes (record { started = true; names = names; steps = steps }) (part text at stop) ≡ answered (record { started = true; names = names; steps = steps }) told
+      module _ (is_not : same_bytes (part text at stop) (bytes "end") ≡ false) {answer : Result TraceLine Fault} (given : answer ≡ trace_line assigns revokes names (part text at stop)) where
+        judged_is : {told : Result TraceLine Fault} → answer ≡ told → judge_line assigns revokes (record { started = true; names = names; steps = steps }) (part text at stop) ≡ answered (record { started = true; names = names; steps = steps }) told
         unfolding judge_line later_line
         judged_is told = rw is_not (ap (answered (record { started = true; names = names; steps = steps })) (sym given ∙ told))
 
-        pub line_bad : {k : ℕ} → answer ≡ TraceLine.Bad k → read_trace assigns revokes users text ≡ refused k number
+        pub line_bad : {fault : Fault} → answer ≡ Err fault → read_trace assigns revokes users text ≡ refused (evidence_number fault) number
         unfolding read_trace answered
         line_bad told = on_bad (judge_line assigns revokes) 15 14 (untraced users) after.on sought here (judged_is told)
 
-        pub line_step : {step : Step} {name : Name} → answer ≡ TraceLine.Step step name → After assigns revokes users text (stop + 1) (number + 1) (with_name names step name) (steps ++ (step ∷ []))
+        pub line_step : {line : TraceLine} → answer ≡ Ok line → After assigns revokes users text (stop + 1) (number + 1) (with_name names line.step line.name) (steps ++ (line.step ∷ []))
         unfolding answered
         line_step told = record { on = on_goes (judge_line assigns revokes) 15 14 (untraced users) after.on sought here (judged_is told) }

@@ -1,98 +1,96 @@
 // The lines of a trace text, read over the user names that are known and the policy's rule counts.
 #![tactic(auto)]
 
-ghost use Rattle.std.specs.Prelude.{◌≡◌, ◌*◌, ◌-◌, ◌≤◌, length};
+ghost use Rattle.std.specs.Prelude.{◌≡◌, ◌*◌, ◌-◌, ◌≤◌, length, true};
 ghost use Rattle.tables.specs.Names.{rows};
-ghost use Rattle.walking.specs.Turns.{in_turn};
-ghost use Rattle.walking.specs.Evidence.{tests_within};
-ghost use Rattle.traces.specs.TraceLines.{two_fields, three_fields, four_fields, no_name, judged, trace_line, step_of};
-ghost use Rattle.traces.specs.TraceText.{code_of};
+ghost use Rattle.text.specs.Forms.{number_of};
+ghost use Rattle.fields.specs.Fields.{placed};
+ghost use Rattle.traces.specs.TraceLines.{two_fields, three_fields, four_fields, is_step, step_named, nameless, comes_to, judged, trace_line};
 
+use fields::{both, read_name};
 use lines::Counts;
 use steps::Step;
 use tables::Name;
+use walking::{Fault, pass};
 
-// A step line's answer: the step and, for a join, the name; or the refusal's number.
+// What a step line says: its step and, for a join, the name; the name of no bytes for any other, as `name_brought` has it.
 #[derive(Clone, Copy)]
-pub enum TraceLine {
-    Step(Step, Name),
-    Bad(u64),
+pub struct TraceLine {
+    pub step: Step,
+    pub name: Name,
 }
 
-// Malformed, then names, then the limit of names.
-fn in_turn(formed: bool, known: bool, within: bool, step: Step, name: Name) -> TraceLine
-    ensures { result ≡ in_turn TraceLine.Bad (tests_within formed known within) (TraceLine.Step step name) }
+// A step that brings no name.
+fn nameless(step: Step) -> TraceLine
+    ensures { result ≡ nameless step }
 {
-    if !formed {
-        return TraceLine::Bad(15);
-    }
-    if !known {
-        return TraceLine::Bad(16);
-    }
-    if !within {
-        return TraceLine::Bad(21);
-    }
-    TraceLine::Step(step, name)
-}
-
-// The name of no bytes, where a step brings none.
-fn no_name() -> Name
-    ensures { result ≡ no_name }
-{
-    Name {
-        first: 0,
-        second: 0,
-        third: 0,
-        fourth: 0,
+    TraceLine {
+        step,
+        name: tables::pack(b""),
     }
 }
 
 // A line of two fields: a user leaves.
-fn leave_line(word: &[u8], name: &[u8], users: &[u64], c: Counts) -> TraceLine
+#[tactic(auto, unfolding(crate::specs::TraceLines::two_fields, crate::specs::TraceLines::judged, crate::specs::TraceLines::comes_to, crate::specs::TraceLines::step_formed, crate::specs::TraceLines::step_known, crate::specs::TraceLines::step_within, crate::specs::TraceLines::step_said, crate::specs::TraceLines::name_brought, fields::specs::Fields::name_read, fields::specs::Fields::field_read))]
+fn leave_line(word: &[u8], name: &[u8], users: &[u64], c: Counts) -> Result<TraceLine, Fault>
     requires { 4 * c.users ≤ length users.now }
     ensures { result ≡ judged c.assigns c.revokes (rows c.users users.now) (two_fields word.now name.now) }
 {
-    let count = c.users;
-    let user = tables::find(users, count, tables::pack(name));
-    let formed = text::same(word, b"leave") & text::is_name(name);
-    in_turn(formed, user < count, true, Step::Leave { user }, no_name())
+    pass(text::same(word, b"leave"), Fault::Malformed)?;
+    let user = read_name(name, users, c.users)?;
+    Ok(nameless(Step::Leave { user }))
 }
 
 // A line of three fields: somebody joins. A name that is known is no name more.
-fn join_line(word: &[u8], name: &[u8], label: &[u8], users: &[u64], c: Counts) -> TraceLine
+#[tactic(auto, using(tables::specs::Finding::found_test, tables::specs::Finding::found_or_length, tables::specs::NameLaws::rows_length), unfolding(crate::specs::TraceLines::three_fields, crate::specs::TraceLines::judged, crate::specs::TraceLines::comes_to, crate::specs::TraceLines::step_formed, crate::specs::TraceLines::step_known, crate::specs::TraceLines::step_within, crate::specs::TraceLines::step_said, crate::specs::TraceLines::name_brought, fields::specs::Fields::is_declared, fields::specs::Fields::placed))]
+fn join_line(
+    word: &[u8],
+    name: &[u8],
+    label: &[u8],
+    users: &[u64],
+    c: Counts,
+) -> Result<TraceLine, Fault>
     requires { 4 * c.users ≤ length users.now }
     ensures { result ≡ judged c.assigns c.revokes (rows c.users users.now) (three_fields word.now name.now label.now) }
 {
-    let count = c.users;
-    let packed = tables::pack(name);
-    let user = tables::find(users, count, packed);
     let formed = text::same(word, b"join") & text::is_name(name) & text::is_label(label);
-    let within = (user < count) | (count < 64);
+    pass(formed, Fault::Malformed)?;
+    let name = tables::pack(name);
+    let found = tables::find(users, c.users, name);
+    pass(found.is_some() | (c.users < 64), Fault::AboveLimit)?;
+    let user = found.unwrap_or(c.users);
     let clearance = text::same(label, b"H");
-    in_turn(formed, true, within, Step::Join { user, clearance }, packed)
+    Ok(TraceLine {
+        step: Step::Join { user, clearance },
+        name,
+    })
 }
 
-// The place, from 0, of what has a number from 1.
-fn place_of(number: usize) -> usize
-    ensures { result ≡ number - 1 }
+// The places of a step's actor, rule and user, among so many rules of its kind.
+#[tactic(auto, using(text::specs::FormLaws::number_some, text::specs::FormLaws::number_none), unfolding(crate::specs::TraceLines::comes_to, crate::specs::TraceLines::is_step, crate::specs::TraceLines::step_named, fields::specs::Fields::name_read, fields::specs::Fields::field_read, fields::specs::Fields::both_read, fields::specs::Fields::worse))]
+fn read_use(
+    actor: &[u8],
+    number: &[u8],
+    user: &[u8],
+    rules: usize,
+    users: &[u64],
+    count: usize,
+) -> Result<(usize, usize, usize), Fault>
+    requires { 4 * count ≤ length users.now }
+    ensures { let names = rows count users.now in result ≡ comes_to (is_step actor.now number.now user.now) (step_named rules names actor.now number.now user.now) true (placed names actor.now, number_of number.now - 1, placed names user.now) }
 {
-    if number == 0 {
-        return 0;
-    }
-    number - 1
-}
-
-// An assign step, and else a revoke step.
-fn step_of(assigning: bool, actor: usize, rule: usize, user: usize) -> Step
-    ensures { result ≡ step_of assigning actor rule user }
-{
-    if assigning {
-        return Step::Assign { actor, rule, user };
-    }
-    Step::Revoke { actor, rule, user }
+    let number = text::number(number).ok_or(Fault::Malformed)?;
+    let names = both(
+        read_name(actor, users, count),
+        read_name(user, users, count),
+    );
+    let (actor, user) = names?;
+    pass(number <= rules, Fault::Undeclared)?;
+    Ok((actor, number.saturating_sub(1), user))
 }
 
 // A line of four fields: an assign step or a revoke step.
+#[tactic(auto, unfolding(crate::specs::TraceLines::four_fields, crate::specs::TraceLines::judged, crate::specs::TraceLines::comes_to, crate::specs::TraceLines::step_formed, crate::specs::TraceLines::step_known, crate::specs::TraceLines::step_within, crate::specs::TraceLines::step_said, crate::specs::TraceLines::name_brought))]
 fn step_line(
     word: &[u8],
     actor: &[u8],
@@ -100,37 +98,30 @@ fn step_line(
     user: &[u8],
     users: &[u64],
     c: Counts,
-) -> TraceLine
+) -> Result<TraceLine, Fault>
     requires { 4 * c.users ≤ length users.now }
     ensures { result ≡ judged c.assigns c.revokes (rows c.users users.now) (four_fields word.now actor.now number.now user.now) }
 {
-    let assigning = text::same(word, b"assign");
-    let kind = assigning | text::same(word, b"revoke");
-    let count = c.users;
-    let a = tables::find(users, count, tables::pack(actor));
-    let u = tables::find(users, count, tables::pack(user));
-    let n = text::number(number);
-    let formed = kind & (text::is_name(actor) & text::is_name(user) & (n != 0));
-    let ruled = (assigning & (n <= c.assigns)) | (!assigning & (n <= c.revokes));
-    let known = (a < count) & (u < count) & ruled;
-    in_turn(
-        formed,
-        known,
-        true,
-        step_of(assigning, a, place_of(n), u),
-        no_name(),
-    )
+    if text::same(word, b"assign") {
+        let (actor, rule, user) = read_use(actor, number, user, c.assigns, users, c.users)?;
+        return Ok(nameless(Step::Assign { actor, rule, user }));
+    }
+    if text::same(word, b"revoke") {
+        let (actor, rule, user) = read_use(actor, number, user, c.revokes, users, c.users)?;
+        return Ok(nameless(Step::Revoke { actor, rule, user }));
+    }
+    Err(Fault::Malformed)
 }
 
 // One line after the header, without its LF, that is not `end`: judged on its own bytes, the names that are known and the rule counts.
-pub fn read_line(line: &[u8], users: &[u64], c: Counts) -> TraceLine
+pub fn read_line(line: &[u8], users: &[u64], c: Counts) -> Result<TraceLine, Fault>
     requires { 4 * c.users ≤ length users.now }
     ensures { result ≡ trace_line c.assigns c.revokes (rows c.users users.now) line.now }
 {
     let end = line.len();
     let a = text::seek(line, 0, b'\t');
     if a == end {
-        return TraceLine::Bad(15);
+        return Err(Fault::Malformed);
     }
     let b = text::seek(line, a + 1, b'\t');
     if b == end {
@@ -142,7 +133,7 @@ pub fn read_line(line: &[u8], users: &[u64], c: Counts) -> TraceLine
     }
     let e = text::seek(line, d + 1, b'\t');
     if e < end {
-        return TraceLine::Bad(15);
+        return Err(Fault::Malformed);
     }
     step_line(
         &line[0..a],
@@ -152,14 +143,4 @@ pub fn read_line(line: &[u8], users: &[u64], c: Counts) -> TraceLine
         users,
         c,
     )
-}
-
-// The refusal's number of a line that is not a step.
-pub fn code(answer: TraceLine) -> u64
-    ensures { result ≡ code_of answer }
-{
-    match answer {
-        TraceLine::Step(_, _) => 0,
-        TraceLine::Bad(number) => number,
-    }
 }

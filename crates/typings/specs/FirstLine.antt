@@ -1,10 +1,13 @@
 -- That the first line is a typing's header is seen in the first nine bytes.
-use Rattle.std.specs.Prelude.{ℕ, ◌-◌, ◌≤◌, ◌<◌, Bool, true, false, List, [], ◌∷◌, ◌++◌, ◌≡◌, refl, eqb, length, take, drop}
+use Rattle.std.specs.Prelude.{ℕ, ◌-◌, ◌≤◌, ◌<◌, Bool, true, false, ◌||◌, List, [], ◌∷◌, ◌++◌, ◌≡◌, refl, eqb, length, take, drop}
 use Rattle.std.proofs.Common.{sym, ap, ◌∙◌, eqb-true, length-append, take-append-drop, arith}
+use Rattle.std.proofs.Math.Bool.{or-false}
+use Rattle.std.proofs.Math.Decide.{dec_lt}
 use Rattle.text.specs.Index.{index_of, index_after}
 use Rattle.text.specs.Forms.{bytes}
 use Rattle.text.specs.Pieces.{part, same_bytes}
 use Rattle.text.specs.PieceLaws.{same_equal, equal_same, same_answer}
+use Rattle.text.specs.Begins.{begins, begins-whole}
 use Rattle.typings.specs.Kind.{is_typing}
 
 -- the bytes before the first LF are all of them, or the LF follows them
@@ -52,3 +55,20 @@ typing_long text long =
     go : {line : List ℕ} → line ≡ bytes "typing\t1" → Cut text line → same_bytes (take 9 text) (bytes "typing\t1\n") ≡ true
     go is (whole all) = absurd (omega (arith, ap length (all ∙ is)))
     go is (before rest cut) = rw (cut, is) (equal_same (bytes "typing\t1\n"))
+
+-- of any length: the header is all of it, or it begins with the header and its LF
+pub typing_begun : (text : List ℕ) → (same_bytes text (bytes "typing\t1") || begins (bytes "typing\t1\n") text) ≡ is_typing text
+unfolding begins
+typing_begun text = go (dec_lt (length text) 9)
+  where
+    shorter : length text < 9 → (begun : Bool) → begins (bytes "typing\t1\n") text ≡ begun → begun ≡ false
+    shorter short true is = absurd (omega (arith, ap length (begins-whole (bytes "typing\t1\n") text is)))
+    shorter short false is = refl
+
+    longer : 9 ≤ length text → (all : Bool) → same_bytes text (bytes "typing\t1") ≡ all → all ≡ false
+    longer long true is = absurd (omega (arith, ap length (same_equal text (bytes "typing\t1") is)))
+    longer long false is = refl
+
+    go : Dec (length text < 9) → (same_bytes text (bytes "typing\t1") || begins (bytes "typing\t1\n") text) ≡ is_typing text
+    go (yes short) = ap (λ (b : Bool). same_bytes text (bytes "typing\t1") || b) (shorter short _ refl) ∙ or-false _ ∙ typing_short text short
+    go (no long) = let most : 9 ≤ length text = omega arith in ap (λ (b : Bool). b || begins (bytes "typing\t1\n") text) (longer most _ refl) ∙ typing_long text most

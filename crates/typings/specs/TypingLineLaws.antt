@@ -1,79 +1,116 @@
 -- Each kind of typing line from what a reader finds.
-use Rattle.std.specs.Prelude.{ℕ, ◌+◌, max, Bool, true, false, cond, ◌&&◌, List, ◌≡◌, refl, leb, ltb, eqb, length}
+use Rattle.std.specs.Prelude.{ℕ, ◌+◌, ◌-◌, ◌≤◌, Bool, true, false, cond, ◌&&◌, List, ◌≡◌, refl, leb, ltb, eqb, length, Result, Ok, Err, Option, Some, None}
+use Rattle.std.specs.Option.{option_eq}
 use Rattle.std.proofs.Math.Bool.{and-eq-true_iff}
-use Rattle.std.proofs.Common.{sym, ap, ap₂, ◌∙◌}
+use Rattle.std.proofs.Common.{true≢false, sym, ap, ap₂, ◌∙◌, leb-true, ltb-false, arith}
+use Rattle.std.proofs.lemmas.Bool.Decides.{nat_tests}
+use borrow.Author.Tests.{ne_eqb}
+use Rattle.roles.specs.declared.RoleSet.{RoleSet}
 use Rattle.tables.specs.declared.Name.{Name}
+use Rattle.tables.specs.Names.{packed, place_of, found_in}
 use Rattle.text.specs.Forms.{bytes, is_name, is_set, is_label}
 use Rattle.text.specs.Pieces.{split, same_bytes}
-use Rattle.walking.specs.Turns.{in_turn}
-use Rattle.walking.specs.TurnLaws.{turn_same}
-use Rattle.walking.specs.Evidence.{tests}
-use Rattle.fields.specs.declared.SetRead.{SetRead}
-use Rattle.fields.specs.Fields.{placed, all_declared, roles_of, fault_of, set_read}
-use Rattle.fields.specs.FieldLaws.{worse, set_fault, roles_read}
+use Rattle.walking.specs.declared.Fault.{Fault}
+use Rattle.walking.specs.Faults.{passing}
+use Rattle.fields.specs.Fields.{placed, all_declared, roles_of, field_read, set_read, both_read}
+use Rattle.fields.specs.FieldLaws.{both_fields}
 use Rattle.typings.specs.declared.TypingEntry.{TypingEntry}
-use Rattle.typings.specs.declared.TypingLine.{TypingLine}
-use Rattle.typings.specs.TypingLines.{end, entry, header, judged, line_of, named, one_field, other, row, two_fields, typing_line, well_formed}
+use Rattle.typings.specs.TypingLines.{end, entry, header, judged, line_of, named, one_field, other, row, tested, two_fields, typing_line, well_formed}
+
+-- ---- the tests of a line, one after the other
+
+-- What holds of a line with a fault and of a good one holds of what the line comes to.
+pub tested_cases : (P : Result TypingEntry Fault → Type 0) (formed known : Bool) (says : TypingEntry) → ((fault : Fault) → P (Err fault)) → (formed ≡ true → known ≡ true → P (Ok says)) → P (tested formed known says)
+tested_cases P true true says fails passes = passes refl refl
+tested_cases P true false says fails passes = fails Fault.Undeclared
+tested_cases P false known says fails passes = fails Fault.Malformed
+
+-- A test that fails decides, and one that passes leaves the rest.
+pub test_fails : {A : Type 0} {found : Fault} (fault : Fault) (passes : Bool) (rest : Result A Fault) → Err found ≡ passing passes fault → Err found ≡ cond passes rest (Err fault)
+test_fails fault true rest is = absurd (true≢false (cc))
+test_fails fault false rest is = cc
+
+pub test_passes : {A : Type 0} {found : Unit {0}} (fault : Fault) (passes : Bool) (rest : Result A Fault) → Ok found ≡ passing passes fault → rest ≡ cond passes rest (Err fault)
+test_passes fault true rest is = refl
+test_passes fault false rest is = absurd (true≢false (cc))
 
 -- ---- each kind of line, from what a reader finds
 
-pub end_judged : (stage : ℕ) (names : List Name) (word : List ℕ) {count : ℕ} {is : Bool} {answer : TypingLine} → length names ≡ count → is ≡ same_bytes word (bytes "end")
-    → answer ≡ in_turn TypingLine.Bad (tests (is && eqb stage (count + 1)) true) (TypingLine.Good TypingEntry.End) → answer ≡ judged stage names (one_field word)
+pub end_judged : (stage : ℕ) (names : List Name) (word : List ℕ) {count : ℕ} {is : Bool} {answer : Result TypingEntry Fault} → length names ≡ count → is ≡ same_bytes word (bytes "end")
+    → answer ≡ tested (is && eqb stage (count + 1)) true TypingEntry.End → answer ≡ judged stage names (one_field word)
 unfolding judged well_formed named entry one_field
 end_judged stage names word many same given = (cc) ∙ go (same_bytes word (bytes "end"))
   where
-    go : (b : Bool) → in_turn TypingLine.Bad (tests (b && eqb stage (length names + 1)) true) (TypingLine.Good TypingEntry.End) ≡ judged stage names (cond b end other)
+    go : (b : Bool) → tested (b && eqb stage (length names + 1)) true TypingEntry.End ≡ judged stage names (cond b end other)
     go true = refl
     go false = refl
 
-pub header_judged : (stage : ℕ) (names : List Name) (word edition : List ℕ) {is one : Bool} {answer : TypingLine} → is ≡ same_bytes word (bytes "typing") → one ≡ same_bytes edition (bytes "1")
-    → answer ≡ in_turn TypingLine.Bad (tests ((is && eqb stage 0) && one) true) (TypingLine.Good TypingEntry.Header) → answer ≡ judged stage names (two_fields word edition)
-unfolding judged well_formed named entry two_fields in_turn
+pub header_judged : (stage : ℕ) (names : List Name) (word edition : List ℕ) {is one : Bool} {answer : Result TypingEntry Fault} → is ≡ same_bytes word (bytes "typing") → one ≡ same_bytes edition (bytes "1")
+    → answer ≡ tested ((is && eqb stage 0) && one) true TypingEntry.Header → answer ≡ judged stage names (two_fields word edition)
+unfolding judged well_formed named entry two_fields
 header_judged stage names word edition same first given = (cc) ∙ go (same_bytes word (bytes "typing"))
   where
     go : (b : Bool)
-        → in_turn TypingLine.Bad (tests ((b && eqb stage 0) && same_bytes edition (bytes "1")) true) (TypingLine.Good TypingEntry.Header) ≡ judged stage names (cond b (header edition) other)
+        → tested ((b && eqb stage 0) && same_bytes edition (bytes "1")) true TypingEntry.Header ≡ judged stage names (cond b (header edition) other)
     go true = refl
     go false = refl
 
--- a line whose fields have one fault together, beside what else it asks
-by_fault : (ordered own formed known : Bool) (answer : TypingLine)
-    → in_turn TypingLine.Bad (tests (ordered && ltb (fault_of formed known) 2) (own && eqb (fault_of formed known) 0)) answer ≡ in_turn TypingLine.Bad (tests (ordered && formed) (own && known)) answer
-unfolding in_turn fault_of
-by_fault true own true true answer = refl
-by_fault true own true false answer = refl
-by_fault true own false known answer = refl
-by_fault false own formed known answer = refl
+-- what a row says by its sets and its role, and a row at its place with its name and its label
+abbrev pub row_says : (own high : Bool) → Result (RoleSet × RoleSet) Fault → Result TypingEntry Fault
+row_says own high (Err fault) = Err fault
+row_says own high (Ok (plus, minus)) = cond own (Ok (TypingEntry.Row high plus minus)) (Err Fault.Undeclared)
 
-pub row_judged : (stage : ℕ) (names : List Name) (name label plus minus : List ℕ) {P M : SetRead} {place count fault : ℕ} {is lab high : Bool} {answer : TypingLine}
-    → length names ≡ count → place ≡ placed names name → P ≡ set_read names plus → M ≡ set_read names minus → fault ≡ max P.fault M.fault → is ≡ is_name name → lab ≡ is_label label
-    → high ≡ same_bytes label (bytes "H")
-    → answer ≡ in_turn TypingLine.Bad (tests ((((leb 1 stage && leb stage count) && is) && lab) && ltb fault 2) (eqb (place + 1) stage && eqb fault 0)) (TypingLine.Good (TypingEntry.Row high P.roles M.roles))
+abbrev pub row_answer : (ordered own high : Bool) → Result (RoleSet × RoleSet) Fault → Result TypingEntry Fault
+row_answer ordered own high sets = cond ordered (row_says own high sets) (Err Fault.Malformed)
+
+row_tested : (ordered own high formed known : Bool) (plus minus : RoleSet)
+    → row_answer ordered own high (field_read formed known (plus, minus)) ≡ tested (ordered && formed) (own && known) (TypingEntry.Row high plus minus)
+unfolding field_read
+row_tested true true high true true plus minus = refl
+row_tested true true high true false plus minus = refl
+row_tested true true high false known plus minus = refl
+row_tested true false high true true plus minus = refl
+row_tested true false high true false plus minus = refl
+row_tested true false high false known plus minus = refl
+row_tested false own high formed known plus minus = refl
+
+place_below : (place stage : ℕ) → 1 ≤ stage → eqb place (stage - 1) ≡ eqb (place + 1) stage
+place_below place stage least = grind (arith, nat_tests)
+
+-- where the place is a role's, that role is found exactly where the name is its own
+own_found : (stage : ℕ) (names : List Name) (name : List ℕ) → 1 ≤ stage → stage ≤ length names → option_eq eqb (found_in names (packed name)) (Some (stage - 1)) ≡ eqb (placed names name + 1) stage
+unfolding found_in placed
+own_found stage names name least most = go (ltb (place_of names (packed name)) (length names)) refl
+  where
+    go : (b : Bool) → ltb (place_of names (packed name)) (length names) ≡ b → option_eq eqb (cond b (Some (place_of names (packed name))) None) (Some (stage - 1)) ≡ eqb (place_of names (packed name) + 1) stage
+    go true is = place_below (place_of names (packed name)) stage least
+    go false is = sym (ne_eqb (place_of names (packed name) + 1) stage (omega (arith, ltb-false (place_of names (packed name)) (length names) is)))
+
+pub row_judged : (stage : ℕ) (names : List Name) (name label plus minus : List ℕ) {count : ℕ} {is lab high own : Bool} {place : Option ℕ} {P M : Result RoleSet Fault} {sets : Result (RoleSet × RoleSet) Fault}
+    {answer : Result TypingEntry Fault}
+    → length names ≡ count → is ≡ is_name name → lab ≡ is_label label → P ≡ set_read names plus → M ≡ set_read names minus → sets ≡ both_read P M → place ≡ found_in names (packed name)
+    → own ≡ option_eq eqb place (Some (stage - 1)) → high ≡ same_bytes label (bytes "H") → answer ≡ row_answer (((leb 1 stage && leb stage count) && is) && lab) own high sets
     → answer ≡ judged stage names (row name label plus minus)
-unfolding judged well_formed named entry
-row_judged stage names name label plus minus {P} {M} {fault = fault} {high = high} many at hP hM worst named-is labelled tall given =
-    (cc faults)
-    ∙ by_fault ordered own (is_set plus && is_set minus) (all_declared names plus && all_declared names minus) _
-    ∙ turn_same TypingLine.Bad _ _ _ (λ passed. rows_same ((and-eq-true_iff ordered (is_set plus && is_set minus)).0 passed.0).1 ((and-eq-true_iff own (all_declared names plus && all_declared names minus)).0 passed.1.0).1)
+unfolding judged well_formed named entry set_read
+row_judged stage names name label plus minus {own = own} {sets = sets} many named-is labelled hP hM together found hO tall given =
+    (cc) ∙ placed_same ordered refl
+    ∙ ap (row_answer ordered (eqb (placed names name + 1) stage) (same_bytes label (bytes "H")))
+    (together ∙ ap₂ both_read hP hM ∙ both_fields (is_set plus) (all_declared names plus) (is_set minus) (all_declared names minus) (roles_of names plus) (roles_of names minus))
+    ∙ row_tested _ _ _ _ _ _ _
   where
     ordered : Bool
     ordered = ((leb 1 stage && leb stage (length names)) && is_name name) && is_label label
 
-    own : Bool
-    own = eqb (placed names name + 1) stage
+    placed_same : (b : Bool) → ordered ≡ b → row_answer b own (same_bytes label (bytes "H")) sets ≡ row_answer b (eqb (placed names name + 1) stage) (same_bytes label (bytes "H")) sets
+    placed_same true is =
+        let three = ((and-eq-true_iff ((leb 1 stage && leb stage (length names)) && is_name name) (is_label label)).0 is).0 in
+        let two = ((and-eq-true_iff (leb 1 stage && leb stage (length names)) (is_name name)).0 three).0 in
+        let both = (and-eq-true_iff (leb 1 stage) (leb stage (length names))).0 two in
+        ap (λ (o : Bool). row_says o (same_bytes label (bytes "H")) sets) (hO ∙ ap (λ (p : Option ℕ). option_eq eqb p (Some (stage - 1))) found ∙ own_found stage names name (leb-true 1 stage both.0) (leb-true stage (length names) both.1))
+    placed_same false is = refl
 
-    faults : fault ≡ fault_of (is_set plus && is_set minus) (all_declared names plus && all_declared names minus)
-    faults = worst ∙ ap₂ max (set_fault names plus hP) (set_fault names minus hM) ∙ worse (is_set plus) (all_declared names plus) (is_set minus) (all_declared names minus)
-
-    rows_same : (is_set plus && is_set minus) ≡ true → (all_declared names plus && all_declared names minus) ≡ true
-        → TypingLine.Good (TypingEntry.Row high P.roles M.roles) ≡ TypingLine.Good (TypingEntry.Row (same_bytes label (bytes "H")) (roles_of names plus) (roles_of names minus))
-    rows_same f k =
-        let forms = (and-eq-true_iff (is_set plus) (is_set minus)).0 f in
-        let knowns = (and-eq-true_iff (all_declared names plus) (all_declared names minus)).0 k in
-        λ i. TypingLine.Good (TypingEntry.Row (tall i) (roles_read names plus hP forms.0 knowns.0 i) (roles_read names minus hM forms.1 knowns.1 i))
-
-pub other-judged : (stage : ℕ) (names : List Name) → TypingLine.Bad 15 ≡ judged stage names other
-unfolding judged in_turn well_formed
+pub other-judged : (stage : ℕ) (names : List Name) → Err Fault.Malformed ≡ judged stage names other
+unfolding judged well_formed
 other-judged stage names = refl
 
 -- ---- the fields of a line

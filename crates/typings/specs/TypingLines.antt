@@ -1,13 +1,11 @@
 -- One line of a typing: when it is malformed, and when it names what it must not (document 01, "The texts").
-use Rattle.std.specs.Prelude.{ℕ, ◌+◌, Bool, true, false, cond, ◌&&◌, List, [], ◌∷◌, leb, eqb, length}
+use Rattle.std.specs.Prelude.{ℕ, ◌+◌, Bool, true, false, cond, ◌&&◌, List, [], ◌∷◌, leb, eqb, length, Result, Ok, Err}
 use Rattle.tables.specs.declared.Name.{Name}
 use Rattle.text.specs.Forms.{bytes, is_name, is_set, is_label}
 use Rattle.text.specs.Pieces.{split, same_bytes}
-use Rattle.walking.specs.Turns.{in_turn}
-use Rattle.walking.specs.Evidence.{tests}
+use Rattle.walking.specs.declared.Fault.{Fault}
 use Rattle.fields.specs.Fields.{placed, all_declared, roles_of}
 use Rattle.typings.specs.declared.TypingEntry.{TypingEntry}
-use Rattle.typings.specs.declared.TypingLine.{TypingLine}
 
 -- A line by its fields.
 pub data Line : Type 0 where
@@ -52,8 +50,11 @@ entry names end = TypingEntry.End
 entry names other = TypingEntry.End
 
 -- What the line comes to: malformed, then names, and else what it says.
-unfoldable pub judged : (stage : ℕ) → List Name → Line → TypingLine
-judged stage names line = in_turn TypingLine.Bad (tests (well_formed stage (length names) line) (named stage names line)) (TypingLine.Good (entry names line))
+abbrev pub tested : (formed known : Bool) → (says : TypingEntry) → Result TypingEntry Fault
+tested formed known says = cond formed (cond known (Ok says) (Err Fault.Undeclared)) (Err Fault.Malformed)
 
-unfoldable pub typing_line : (stage : ℕ) → List Name → List ℕ → TypingLine
+unfoldable pub judged : (stage : ℕ) → List Name → Line → Result TypingEntry Fault
+judged stage names line = tested (well_formed stage (length names) line) (named stage names line) (entry names line)
+
+unfoldable pub typing_line : (stage : ℕ) → List Name → List ℕ → Result TypingEntry Fault
 typing_line stage names line = judged stage names (line_of (split 9 line))

@@ -1,6 +1,6 @@
 -- What holds between two lines while a typing is read: the arrays are what the rows so far say, and the rest decides.
 use Prim.Native.Nat.{ℕ, suc, ◌+◌, ◌-◌, ◌≤◌, ◌<◌}
-use Rattle.std.specs.Prelude.{Bool, true, ◌&&◌, ◌≡◌, refl, leb, eqb, length}
+use Rattle.std.specs.Prelude.{Bool, true, ◌&&◌, ◌≡◌, refl, leb, eqb, length, Result, Ok, Err}
 use Rattle.std.proofs.Math.Bool.{false, and-eq-true_iff}
 use Rattle.std.proofs.Common.{true≢false, ap₂, subst, ◌∙◌, leb-true, eqb-true, length-append, arith}
 use mathlib.Core.List.{List, [], ◌∷◌, ◌++◌}
@@ -13,14 +13,15 @@ use Rattle.model.specs.declared.Typing.{Typing as Table}
 use Rattle.tables.specs.declared.Name.{Name}
 use Rattle.text.specs.Forms.{bytes, is_name, is_label, is_set}
 use Rattle.text.specs.Pieces.{split, part, same_bytes, Sought}
+use Rattle.walking.specs.declared.Fault.{Fault}
+use Rattle.walking.specs.Faults.{evidence_number}
 use Rattle.walking.specs.Texts.{Judged}
 use Rattle.walking.specs.TextLaws.{text_long}
-use Rattle.walking.specs.TurnLaws.{turn_good}
 use Rattle.walking.specs.Walk.{On, on_start, on_end, on_tail, on_bad, on_goes, on_last, on_more}
 use Rattle.tables.specs.Storing.{store_next}
 use Rattle.typings.specs.declared.TypingEntry.{TypingEntry}
-use Rattle.typings.specs.declared.TypingLine.{TypingLine}
 use Rattle.typings.specs.TypingLines.{Line, header, row, end, other, line_of, well_formed, entry, judged, typing_line}
+use Rattle.typings.specs.TypingLineLaws.{tested_cases}
 use Rattle.typings.specs.TypingText.{Typed, untyped, added, answered, judge_line, read_typing, table_of, refused_typing, answer_of, typing_read}
 
 -- a good header stands first, and a good row at the place of a role
@@ -41,12 +42,11 @@ entry-fits stage names (row name label plus minus) formed =
 entry-fits stage names end formed = tt
 entry-fits stage names other formed = tt
 
-good_fits : (stage : ℕ) (names : List Name) (line : List ℕ) {e : TypingEntry} → typing_line stage names line ≡ TypingLine.Good e → Fitting stage (length names) e
+good_fits : (stage : ℕ) (names : List Name) (line : List ℕ) {e : TypingEntry} → typing_line stage names line ≡ Ok e → Fitting stage (length names) e
 unfolding typing_line judged
-good_fits stage names line {e} good =
-    let (passed, says) = turn_good TypingLine.Bad _ _ (TypingLine.Good e) (λ k is. true≢false (cc)) good in
-    let is : entry names (line_of (split 9 line)) ≡ e = cc in
-    subst (Fitting stage (length names)) is (entry-fits stage names (line_of (split 9 line)) passed.0)
+good_fits stage names line {e} =
+    tested_cases (λ (a : Result TypingEntry Fault). a ≡ Ok e → Fitting stage (length names) e) _ _ _ (λ fault is. absurd (true≢false (cc)))
+    (λ formed known is. subst (Fitting stage (length names)) (cc) (entry-fits stage names (line_of (split 9 line)) formed))
 
 -- as many labels and sets as rows
 pub record Rowed (s : Typed) : Type 0 where
@@ -88,17 +88,17 @@ module _ {names : List Name} {text : List ℕ} {at number stage : ℕ} {t : Tabl
     unfolding typing_read read_typing answer_of
     reached_tail last = sym (ap answer_of (on_tail (judge_line names) 15 14 untyped r.on sought last))
 
-    module _ (here : stop < length text) {answer : TypingLine} (given : answer ≡ typing_line stage names (part text at stop)) where
+    module _ (here : stop < length text) {answer : Result TypingEntry Fault} (given : answer ≡ typing_line stage names (part text at stop)) where
       judged_is : {judged : Judged Typed} → answered r.said answer ≡ judged → judge_line names r.said (part text at stop) ≡ judged
       unfolding judge_line
       judged_is is = ap (answered r.said) (sym (given ∙ ap (λ (k : ℕ). typing_line k names (part text at stop)) r.counted)) ∙ is
 
       -- a line that is not good
-      pub line_refused : {k : ℕ} → answer ≡ TypingLine.Bad k → refused_typing k number ≡ typing_read names text
+      pub line_refused : {fault : Fault} → answer ≡ Err fault → refused_typing (evidence_number fault) number ≡ typing_read names text
       unfolding typing_read read_typing answer_of answered
       line_refused bad_line_lem = sym (ap answer_of (on_bad (judge_line names) 15 14 untyped r.on sought here (judged_is (ap (answered r.said) bad_line_lem))))
 
-      pub line_header : answer ≡ TypingLine.Good TypingEntry.Header → Reached names text (stop + 1) (number + 1) 1 t
+      pub line_header : answer ≡ Ok TypingEntry.Header → Reached names text (stop + 1) (number + 1) 1 t
       unfolding answered added table_of
       line_header good = record {
         said = record { stage = 1; labels = r.said.labels; plus = r.said.plus; minus = r.said.minus };
@@ -114,7 +114,7 @@ module _ {names : List Name} {text : List ℕ} {at number stage : ℕ} {t : Tabl
         on = on_goes (judge_line names) 15 14 untyped r.on sought here (judged_is (ap (answered r.said) good));
       }
 
-      module _ {label : Bool} {plus minus : RoleSet} (good : answer ≡ TypingLine.Good (TypingEntry.Row label plus minus)) where
+      module _ {label : Bool} {plus minus : RoleSet} (good : answer ≡ Ok (TypingEntry.Row label plus minus)) where
         pub row_fits : (1 ≤ stage) × (stage ≤ length names)
         row_fits = good_fits stage names (part text at stop) (sym given ∙ good)
 
@@ -147,11 +147,11 @@ module _ {names : List Name} {text : List ℕ} {at number stage : ℕ} {t : Tabl
             longer more many = omega (arith, r.counted, row_fits)
 
       -- the last line, and bytes after it
-      module _ (ending : answer ≡ TypingLine.Good TypingEntry.End) where
-        pub line_last : length text ≤ stop + 1 → record { refusal = 0; line = 0; typing = t } ≡ typing_read names text
+      module _ (ending : answer ≡ Ok TypingEntry.End) where
+        pub line_last : length text ≤ stop + 1 → Ok t ≡ typing_read names text
         unfolding typing_read read_typing answer_of answered added
         line_last all =
-            (λ i. record { refusal = 0; line = 0; typing = r.laid i })
+            ap Ok r.laid
             ∙ sym (ap answer_of (on_last (judge_line names) 15 14 untyped r.on sought here (judged_is (ap (answered r.said) ending)) all))
 
         pub line_more : stop + 1 < length text → refused_typing 15 (number + 1) ≡ typing_read names text

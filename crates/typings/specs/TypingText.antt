@@ -1,14 +1,15 @@
--- A whole typing text: what each line adds, and the record that the text is read into.
-use Rattle.std.specs.Prelude.{ℕ, suc, Bool, false, List, [], ◌∷◌, ◌++◌}
+-- A whole typing text: what each line adds, and what the text is read as.
+use Rattle.std.specs.Prelude.{ℕ, suc, Bool, false, List, [], ◌∷◌, ◌++◌, Result, Ok, Err}
 use Rattle.roles.specs.declared.RoleSet.{RoleSet}
 use Rattle.roles.specs.Sets.{empty_set}
 use Rattle.model.specs.declared.Typing.{Typing as Table}
 use Rattle.tables.specs.declared.Name.{Name}
+use Rattle.walking.specs.declared.Fault.{Fault}
+use Rattle.walking.specs.declared.Refusal.{Refusal}
+use Rattle.walking.specs.Faults.{evidence_number}
 use Rattle.walking.specs.Texts.{Judged, goes, ends, bad, Reading, read, refused, read_text}
 use Rattle.tables.specs.Padded.{padded}
 use Rattle.typings.specs.declared.TypingEntry.{TypingEntry}
-use Rattle.typings.specs.declared.TypingLine.{TypingLine}
-use Rattle.typings.specs.declared.TypingRead.{TypingRead}
 use Rattle.typings.specs.TypingLines.{typing_line}
 
 -- What the rows so far say, in role order, and how many lines there are.
@@ -34,14 +35,9 @@ added s TypingEntry.Header = goes (headed s)
 added s (TypingEntry.Row label plus minus) = goes (rowed s label plus minus)
 added s TypingEntry.End = ends
 
--- the refusal's number of a line that is not good
-unfoldable pub code_of : TypingLine → ℕ
-code_of (TypingLine.Good e) = 0
-code_of (TypingLine.Bad number) = number
-
-unfoldable pub answered : Typed → TypingLine → Judged Typed
-answered s (TypingLine.Good e) = added s e
-answered s (TypingLine.Bad number) = bad number
+unfoldable pub answered : Typed → Result TypingEntry Fault → Judged Typed
+answered s (Ok e) = added s e
+answered s (Err fault) = bad (evidence_number fault)
 
 unfoldable pub judge_line : List Name → Typed → List ℕ → Judged Typed
 judge_line names s line = answered s (typing_line s.stage names line)
@@ -54,13 +50,13 @@ read_typing names text = read_text (judge_line names) 15 14 untyped text
 unfoldable pub table_of : Typed → Table
 table_of s = record { labels = padded 128 false s.labels; plus = padded 128 empty_set s.plus; minus = padded 128 empty_set s.minus }
 
--- a refused text gives the typing of nothing
-unfoldable pub refused_typing : (number line : ℕ) → TypingRead
-refused_typing number line = record { refusal = number; line = line; typing = table_of untyped }
+-- a refused text gives the refusal's number and line
+abbrev pub refused_typing : (number line : ℕ) → Result Table Refusal
+refused_typing number line = Err (record { number = number; line = line })
 
-unfoldable pub answer_of : Reading Typed → TypingRead
-answer_of (read s) = record { refusal = 0; line = 0; typing = table_of s }
+unfoldable pub answer_of : Reading Typed → Result Table Refusal
+answer_of (read s) = Ok (table_of s)
 answer_of (refused number line) = refused_typing number line
 
-unfoldable pub typing_read : List Name → List ℕ → TypingRead
+unfoldable pub typing_read : List Name → List ℕ → Result Table Refusal
 typing_read names text = answer_of (read_typing names text)

@@ -6,8 +6,5 @@ ghost use Rattle.typings.specs.Kind.{is_typing};
 pub fn is_typing(text: &[u8]) -> bool
     ensures { result ≡ is_typing text.now }
 {
-    if text.len() < 9 {
-        return text::same(text, b"typing\t1");
-    }
-    text::same(&text[0..9], b"typing\t1\n")
+    text::same(text, b"typing\t1") | text::begins_with(text, b"typing\t1\n")
 }

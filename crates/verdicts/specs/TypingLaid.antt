@@ -1,5 +1,5 @@
 -- A typing that is read is laid out over the policy's roles: L and the empty sets stand past them, and the sets are words of 64 bits.
-use Rattle.std.specs.Prelude.{ℕ, zero, suc, ◌+◌, ◌-◌, ◌≤◌, ◌<◌, false, ◌≡◌, refl, length, get_or, replicate}
+use Rattle.std.specs.Prelude.{ℕ, zero, suc, ◌+◌, ◌-◌, ◌≤◌, ◌<◌, false, ◌≡◌, refl, length, get_or, replicate, Result}
 use mathlib.Core.List.Memᴰ.{not-nil}
 use mathlib.Core.List.{List, [], ◌∷◌, ◌++◌, Memᴰ as Listed}
 use Rattle.std.proofs.Common.{subst, ◌∙◌, length-append, arith}
@@ -20,10 +20,11 @@ use Rattle.walking.specs.Texts.{goes, read}
 use Rattle.walking.specs.TextLaws.{goes_one, goes_ends, goes_bad}
 use Rattle.fields.specs.Fields.{roles_of}
 use Rattle.tables.specs.Padded.{padded}
-use Rattle.walking.specs.TurnLaws.{turn_cases}
 use Rattle.walking.specs.Kept.{text_keeps}
 use Rattle.steps.proofs.PlaceLaws.{stands_at, at_listed}
-use Rattle.typings.specs.declared.TypingLine.{TypingLine}
+use Rattle.walking.specs.declared.Fault.{Fault}
+use Rattle.typings.specs.declared.TypingEntry.{TypingEntry}
+use Rattle.typings.specs.TypingLineLaws.{tested_cases}
 use Rattle.typings.specs.TypingLines.{Line, header, row, end, other, line_of, entry, judged, typing_line}
 use Rattle.typings.specs.TypingText.{Typed, untyped, added, answered, judge_line, read_typing, table_of}
 use Rattle.typings.specs.TypingReached.{Rowed, Fitting, entry-fits}
@@ -71,8 +72,8 @@ entry-rows names s t other fits is rows = absurd (goes_ends is)
 line_rows : (names : List Name) (s t : Typed) (line : List ℕ) → judge_line names s line ≡ goes t → Rows (length names) s → Rows (length names) t
 unfolding judge_line answered typing_line judged
 line_rows names s t line =
-    turn_cases (λ (a : TypingLine). answered s a ≡ goes t → Rows (length names) s → Rows (length names) t) TypingLine.Bad _ _ (λ k f is. absurd (goes_bad is))
-    (λ passed. entry-rows names s t (line_of (split 9 line)) (entry-fits s.stage names (line_of (split 9 line)) passed.0))
+    tested_cases (λ (a : Result TypingEntry Fault). answered s a ≡ goes t → Rows (length names) s → Rows (length names) t) _ _ _ (λ fault is. absurd (goes_bad is))
+    (λ formed known. entry-rows names s t (line_of (split 9 line)) (entry-fits s.stage names (line_of (split 9 line)) formed))
 
 untyped-rows : (roles : ℕ) → Rows roles untyped
 unfolding untyped

@@ -1,7 +1,8 @@
 // What a line of `sum` or `merge` speaks of: a text or a judging, by its words; and the line shown with it.
 #![tactic(auto)]
 
-ghost use Rattle.std.specs.Prelude.{◌++◌, ◌+◌, ◌≤◌, length};
+ghost use Rattle.std.specs.Prelude.{◌++◌, ◌+◌, ◌≤◌, length, map};
+ghost use Rattle.std.specs.List.{All};
 ghost use Rattle.text.specs.Forms.{bytes};
 ghost use Rattle.writing.specs.Written.{decimal};
 ghost use Rattle.showing.specs.Fields.{field, fields_on};
@@ -23,32 +24,20 @@ pub enum Mention {
     Judging,
 }
 
-// Writes the field of one of four words by its number from 1, and answers the place past it; none for another number.
-fn nth_field(
-    out: &mut [u8],
-    at: usize,
-    which: usize,
-    one: &[u8],
-    two: &[u8],
-    three: &[u8],
-    four: &[u8],
-) -> usize
-    requires { (length one.now ≤ 20) × (length two.now ≤ 20) × (length three.now ≤ 20) × (length four.now ≤ 20) × (at + 21 ≤ length out.old) }
-    ensures { Goes (nth_field which one.now two.now three.now four.now) 21 at out.old result out.new }
+// Writes the field of one of some words by its number from 1, and answers the place past it; none for another number. A number stays one
+// with 0 for none, and no option: it is what the answers of `sum` and `merge` carry.
+fn nth_field(out: &mut [u8], at: usize, which: usize, words: &[&[u8]]) -> usize
+    requires short { All (λ word. length word ≤ 20) (map (λ word. word.now) words.now) }
+    requires room { at + 21 ≤ length out.old }
+    ensures { Goes (nth_field which (map (λ word. word.now) words.now)) 21 at out.old result out.new }
 {
-    if which == 1 {
-        return word_field(out, at, one);
+    let Some(place) = which.checked_sub(1) else {
+        return at;
+    };
+    match words.get(place) {
+        Some(word) => word_field(out, at, word),
+        None => at,
     }
-    if which == 2 {
-        return word_field(out, at, two);
-    }
-    if which == 3 {
-        return word_field(out, at, three);
-    }
-    if which == 4 {
-        return word_field(out, at, four);
-    }
-    at
 }
 
 // Writes the field of what a line speaks of, and answers the place past it.
@@ -56,27 +45,17 @@ fn mention_field(out: &mut [u8], at: usize, mention: Mention, which: usize) -> u
     requires { at + 21 ≤ length out.old }
     ensures { Goes (mention_field mention which) 21 at out.old result out.new }
 {
-    match mention {
-        Mention::SumText => nth_field(out, at, which, b"policy", b"typing_1", b"typing_2", b""),
-        Mention::MergeText => nth_field(
-            out,
-            at,
-            which,
-            b"policy_1",
-            b"typing_1",
-            b"policy_2",
-            b"typing_2",
-        ),
-        Mention::Judging => nth_field(
-            out,
-            at,
-            which,
+    let words: [&[u8]; 4] = match mention {
+        Mention::SumText => [b"policy", b"typing_1", b"typing_2", b""],
+        Mention::MergeText => [b"policy_1", b"typing_1", b"policy_2", b"typing_2"],
+        Mention::Judging => [
             b"typing_1\tpolicy_1",
             b"typing_2\tpolicy_2",
             b"typing_1\trules_2",
             b"typing_2\trules_1",
-        ),
-    }
+        ],
+    };
+    nth_field(out, at, which, &words)
 }
 
 // Ends a line with the field of what it speaks of, and answers the line's length.

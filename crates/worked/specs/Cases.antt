@@ -20,15 +20,15 @@ use Rattle.typings.specs.TypingLines as typing
 use Rattle.typings.specs.TypingText as typings
 use Rattle.typings.specs.Kind.{is_typing}
 use Rattle.steps.specs.First.{first, first_from}
-use Rattle.steps.specs.Tests.{may_assign, may_revoke, lowest_goal, own_goal, bad_person, goal_of, first_bad}
+use Rattle.steps.specs.Tests.{may_assign, may_revoke, lowest_goal, own_goal, bad_person, found_at, first_bad}
 use Rattle.steps.specs.Traces.{assign_at, revoke_at, possible, after, later, run_of}
 use Rattle.judging.specs.Verdict.{first_failing, subject_of, first_holding, first_assign, first_revoke, first_goal, failing_part, and_then, rules_said, all_said, judged_rules, judged_typing, typing_verdict, rules_verdict, pinned_below, pinned_names}
 use Rattle.running.specs.Verdict.{last_verdict, ran_verdict, read_verdict, trace_verdict}
 use Rattle.summing.specs.Outcome.{answer_in, when_read}
-use Rattle.merging.specs.Directory.{same_lists, same_label, same_person, same_directory}
+use Rattle.merging.specs.Directory.{same_label, same_person, same_directory}
 use Rattle.merging.specs.Merge.{when_same, when_accepted, merge_judged, merge_outcome}
 use Rattle.merging.specs.Merge as merge
-use Rattle.answering.specs.Answers.{judged_answer, typing_answer, trace_answer, evidence_answer, answer_after, answer_of}
+use Rattle.answering.specs.Answers.{judged_answer, typing_answer, traced_answer, trace_answer, evidence_answer, answer_after, answer_of}
 use Rattle.answering.specs.Answers as answer
 use Rattle.walking.specs.Turns.{in_turn}
 
@@ -118,7 +118,7 @@ rows =
 
 -- opens every definition of answering
 unfoldable answering : Unit {0}
-unfolding reading judging padded index_after index_of without_role revoked leaver departed name_at in_turn typing.one_field typing.two_fields typing.line_of typing.well_formed typing.named typing.entry typing.judged typing.typing_line typings.untyped typings.added typings.answered typings.judge_line typings.read_typing typings.table_of tracing is_typing may_assign may_revoke lowest_goal own_goal bad_person goal_of first_bad assign_at revoke_at possible after later run_of last_verdict ran_verdict read_verdict trace_verdict judged_answer typing_answer trace_answer evidence_answer answer_after answer_of rules_verdict same_name same_lists same_label same_person same_directory when_read answer_in when_same when_accepted merge_judged merge_outcome told
+unfolding reading judging padded index_after index_of without_role revoked leaver departed name_at in_turn typing.one_field typing.two_fields typing.line_of typing.well_formed typing.named typing.entry typing.judged typing.typing_line typings.untyped typings.added typings.answered typings.judge_line typings.read_typing typings.table_of tracing is_typing may_assign may_revoke lowest_goal own_goal bad_person found_at first_bad assign_at revoke_at possible after later run_of last_verdict ran_verdict read_verdict trace_verdict judged_answer typing_answer traced_answer trace_answer evidence_answer answer_after answer_of rules_verdict same_name same_label same_person same_directory when_read answer_in when_same when_accepted merge_judged merge_outcome told
 answering = tt
 
 -- Each row is answered so. P11 is a law by itself (`own_target_passes`).

@@ -7,8 +7,7 @@ use Rattle.tables.specs.Names.{packed}
 use Rattle.steps.specs.declared.Step.{Step}
 use Rattle.walking.specs.Texts.{Reading, read, refused}
 use Rattle.worked.specs.Policies.{reading, named}
-use Rattle.walking.specs.Turns.{in_turn}
-use Rattle.traces.specs.TraceLines.{two_fields, three_fields, four_fields, line_of, is_step, step_named, step_formed, step_known, step_within, step_said, name_brought, judged, trace_line}
+use Rattle.traces.specs.TraceLines.{two_fields, three_fields, four_fields, line_of, is_step, step_named, step_formed, step_known, step_within, step_said, name_brought, comes_to, judged, trace_line}
 use Rattle.traces.specs.TraceText.{Traced, untraced, with_name, header_line, later_line, answered, judge_line, read_trace}
 
 -- the desk's users
@@ -73,7 +72,7 @@ texts =
 
 -- opens every definition of this layer
 unfoldable pub tracing : Unit {0}
-unfolding reading is_number decimal number_of in_turn two_fields three_fields four_fields line_of is_step step_named step_formed step_known step_within step_said name_brought judged trace_line untraced with_name header_line later_line answered judge_line read_trace
+unfolding reading is_number decimal number_of two_fields three_fields four_fields line_of is_step step_named step_formed step_known step_within step_said name_brought comes_to judged trace_line untraced with_name header_line later_line answered judge_line read_trace
 tracing = tt
 
 pub worked_traces : map (λ (row : Row). summary (read_trace 2 1 desk row.0)) texts ≡ map (λ (row : Row). row.1) texts

@@ -4,7 +4,7 @@ ghost use Rattle.writing.specs.Written.{put, letters, spelled};
 
 use tables::Name;
 
-// How many bytes a word of a name holds.
+// How many bytes a word of a name holds. The loop goes by what is left of the word, as `letters` does; a walk over its eight bytes would have to stop at the last that is not 0.
 fn word_length(word: u64) -> usize
     ensures { result ≡ length (letters 8 word) }
 {
@@ -27,7 +27,7 @@ pub fn name_length(name: Name) -> usize
         + word_length(name.fourth)
 }
 
-// Puts the bytes of a word at the start of a buffer, and answers how many there are.
+// Puts the bytes of a word at the start of a buffer, and answers how many there are. It goes by what is left of the word, as `word_length` does.
 fn write_word(out: &mut [u8], word: u64) -> usize
     requires { length (letters 8 word) ≤ length out.old }
     ensures { (result ≡ length (letters 8 word)) × (out.new ≡ put (letters 8 word) out.old) }

@@ -2,8 +2,8 @@
 use Rattle.answering.proofs.Laws.{judged_safe, judged_fails}
 use Rattle.answering.proofs.judged.Goals as goal
 
-pub returns-in_default : goal.returns-in_default
-returns-in_default c = judged_safe _ _ c.in_default.is c.pinned.ensures
+pub returns-in-Ok : goal.returns-in-Ok
+returns-in-Ok c = judged_safe _ _ c.in-Ok.is c.pinned.ensures
 
-pub returns : goal.returns
-returns c = judged_fails _ _ c.in-Fails.is
+pub returns-in-Err : goal.returns-in-Err
+returns-in-Err c = judged_fails _ _ c.in-Err.is

@@ -2,14 +2,14 @@
 use Rattle.std.proofs.Common.{ℕ, List, ◌+◌, ◌<◌, ◌≤◌, length, length-set, refl, add-one, arith}
 use Rattle.distinct.specs.Plain.{plain_ordered}
 use Rattle.distinct.specs.Tree.{tree_start, tree_planted}
+use Rattle.distinct.specs.Walk.{Missing}
 use Rattle.distinct.specs.declared.Name.{Name}
-use Rattle.distinct.specs.declared.Search.{Search}
-use Rattle.distinct.specs.Answers.{Named, Searched}
-use Rattle.distinct.specs.Filling.{named-below, found_twice, missing_inside, tree_grown}
+use Rattle.distinct.specs.Answers.{Named}
+use Rattle.distinct.specs.Filling.{named-below, missing_inside, tree_grown}
 use Rattle.distinct.proofs.fill.Goals as goal
 
 -- the name ends in the field, the link's place is in it, and its slot is not far
-inside : {field links : List ℕ} {heads from slot at : ℕ} {name : Name} → Named field heads from name → Searched field links heads name.head from (Search.Missing slot at)
+inside : {field links : List ℕ} {heads from slot at : ℕ} {name : Name} → Named field heads from name → Missing field links heads name.head from slot at
     → (name.end ≤ length field) × (from ≤ name.end) × (at ≤ name.end) × (slot < heads + from)
 inside named searched =
     let missing = missing_inside named searched in
@@ -18,49 +18,21 @@ inside named searched =
 pub loop-from-init : goal.loop-from-init
 loop-from-init c = (omega arith, refl, tree_start _ _ _ c.requires.2)
 
-pub name_at-name-requires : goal.name_at-name-requires
-name_at-name-requires c = let pre = c.requires in
-    (pre.0, c.loop-from-test.true, pre.1.few, c.loop-from.invariant.2.begins)
-
-pub seek-search-requires : goal.seek-search-requires
-seek-search-requires c = let pre = c.requires in
+pub seek-requires : goal.seek-requires
+seek-requires c = let pre = c.requires in
     (pre.0, c.loop-from-test.true, pre.1.few, named-below c.name_at-name.ensures pre.1.some, tree_planted c.loop-from.invariant.2)
 
-pub returns-in_default : goal.returns-in_default
-returns-in_default c = record {
-  twice = λ none. found_twice (c.in_default.ensures);
-  within = omega arith;
-  tree = λ some. absurd (some refl);
-}
-
-pub returns-then-links-slot : goal.returns-then-links-slot
-returns-then-links-slot c = record {
-  twice = λ none. absurd (omega (arith, inside c.name_at-name.ensures c.in-Missing.ensures));
-  within = omega arith;
-  tree = λ some. c.loop-from.invariant.2;
-}
-
 pub overflow_add-links : goal.overflow_add-links
-overflow_add-links c = omega (arith, inside c.name_at-name.ensures c.in-Missing.ensures)
+overflow_add-links c = omega (arith, inside c.name_at-name.ensures c.in_ok-gap.ensures)
 
 pub overflow_cast-links : goal.overflow_cast-links
-overflow_cast-links c = omega (arith, inside c.name_at-name.ensures c.in-Missing.ensures)
-
-pub overflow_add-from : goal.overflow_add-from
-overflow_add-from c = omega (arith, inside c.name_at-name.ensures c.in-Missing.ensures)
+overflow_cast-links c = omega (arith, inside c.name_at-name.ensures c.in_ok-gap.ensures)
 
 pub loop-from-smaller : goal.loop-from-smaller
-loop-from-smaller c = omega (arith, inside c.name_at-name.ensures c.in-Missing.ensures)
+loop-from-smaller c = omega (arith, inside c.name_at-name.ensures c.in_ok-gap.ensures)
 
 pub loop-from-preserved : goal.loop-from-preserved
 loop-from-preserved c = let named = c.name_at-name.ensures in
-    let missing = c.in-Missing.ensures in
+    let missing = c.in_ok-gap.ensures in
     let inv = c.loop-from.invariant in
     (omega (arith, inside named missing), simp length-set inv.1, simp add-one (tree_grown named missing inv.2 (omega arith)))
-
-pub returns : goal.returns
-returns c = record {
-  twice = λ none. absurd (omega arith);
-  within = omega arith;
-  tree = λ some. c.loop-from.invariant.2;
-}

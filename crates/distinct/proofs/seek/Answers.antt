@@ -1,7 +1,6 @@
 -- `seek` follows the name in the tree as `Walk` does. Each step leads to a later place of the tree, so the places left are the measure.
 use Rattle.std.proofs.Common.{ℕ, suc, ◌-◌, ◌<◌, List, ◌≡◌, sym, ◌∙◌, add-one, arith}
 use Rattle.distinct.specs.Walk.{Walk, walk_start, missing_start, walk_same, walk_other, missing_other, walk_twice}
-use Rattle.distinct.specs.Answers.{twice, lacking}
 use Rattle.distinct.proofs.seek.Goals as goal
 
 -- the place in the tree is before the name
@@ -21,7 +20,7 @@ held same some = omega arith
 
 pub returns-then-first-eq0 : goal.returns-then-first-eq0
 returns-then-first-eq0 c = let pre = c.requires in
-    lacking (missing_start pre.4 pre.3 (sym c.link_at-first.ensures ∙ c.if-first-eq0.true))
+    missing_start pre.4 pre.3 (sym c.link_at-first.ensures ∙ c.if-first-eq0.true)
 
 pub overflow_sub-place : goal.overflow_sub-place
 overflow_sub-place c = omega arith
@@ -31,7 +30,7 @@ loop-heads-init c = let pre = c.requires in
     walk_start pre.4 pre.3 pre.1 (omega (arith, c.link_at-first.ensures))
 
 pub returns-then-byte-eq44 : goal.returns-then-byte-eq44
-returns-then-byte-eq44 c = twice (walk_twice c.loop-heads.invariant (same c.symbol_at.ensures c.symbol_at-byte.ensures c.if-symbol_at-byte.true) (sym c.symbol_at-byte.ensures ∙ c.if-byte-eq44.true))
+returns-then-byte-eq44 c = walk_twice c.loop-heads.invariant (same c.symbol_at.ensures c.symbol_at-byte.ensures c.if-symbol_at-byte.true) (sym c.symbol_at-byte.ensures ∙ c.if-byte-eq44.true)
 
 pub overflow_add-at : goal.overflow_add-at
 overflow_add-at c = omega arith
@@ -50,7 +49,7 @@ pub overflow_add-slot : goal.overflow_add-slot
 overflow_add-slot c = omega (arith, early c.loop-heads.invariant)
 
 pub returns-then-next-eq0 : goal.returns-then-next-eq0
-returns-then-next-eq0 c = lacking (missing_other c.loop-heads.invariant (other c.symbol_at.ensures c.symbol_at-byte.ensures c.if-symbol_at-byte.false) (sym c.link_at-next.ensures ∙ c.if-next-eq0.true))
+returns-then-next-eq0 c = missing_other c.loop-heads.invariant (other c.symbol_at.ensures c.symbol_at-byte.ensures c.if-symbol_at-byte.false) (sym c.link_at-next.ensures ∙ c.if-next-eq0.true)
 
 pub overflow_sub-place-else-symbol_at-byte : goal.overflow_sub-place-else-symbol_at-byte
 overflow_sub-place-else-symbol_at-byte c = omega arith

@@ -4,8 +4,8 @@ use Rattle.fields.specs.Sets.{Walked}
 use Rattle.tables.specs.Names.{rows}
 use Rattle.fields.proofs.read_set.Given as goal
 
-abbrev pub invariant-loop-roles : goal.invariant-loop-roles
-invariant-loop-roles l = (l.at ≤ length l.field) × Walked (rows l.count l.table) l.field l.at l.roles
+abbrev pub invariant-loop-place : goal.invariant-loop-place
+invariant-loop-place l = (l.at ≤ length l.field) × Walked (rows l.count l.table) l.field l.at l.roles
 
-abbrev pub decreases-loop-roles : goal.decreases-loop-roles
-decreases-loop-roles l = length l.field - l.at
+abbrev pub decreases-loop-place : goal.decreases-loop-place
+decreases-loop-place l = length l.field - l.at

@@ -2,8 +2,7 @@
 use Rattle.std.proofs.Common.{◌+◌, ◌≤◌, length, arith}
 use Rattle.tables.specs.Names.{rows}
 use Rattle.spelling.specs.TypingText.{set_text}
-use Rattle.showing.specs.Steps.{past-tab, field_room}
-use Rattle.inscribing.specs.Adding.{field_size, adds_field}
+use Rattle.showing.specs.Steps.{past-tab, field_room, field_size, goes_whole}
 use Rattle.inscribing.proofs.set_field.Goals as goal
 
 pub bounds-out-at : goal.bounds-out-at
@@ -19,7 +18,7 @@ pub overflow_add-result : goal.overflow_add-result
 overflow_add-result c = let fits : c.args.at + (length (set_text (rows c.args.count c.args.roles.now) c.args.set) + 1) ≤ length c.args.out.now = omega (arith, c.requires, field_size (set_text (rows c.args.count c.args.roles.now) c.args.set)) in omega (arith, c.write_set.ensures.0)
 
 pub returns : goal.returns
-returns c = adds_field _ c.write_set.ensures
+returns c = goes_whole _ c.write_set.ensures
 
 pub slice_bounds-write_set-start : goal.slice_bounds-write_set-start
 slice_bounds-write_set-start c = slice_bounds-write_set-count c

@@ -2,6 +2,6 @@
 use Rattle.places.specs.Place.{bad_line}
 use Rattle.places.proofs.bad_line.Goals as goal
 
-pub returns : goal.returns
+pub returns-clause-result_value : goal.returns-clause-result_value
 unfolding bad_line
-returns c = record { result_value = rw c.refusal_of.ensures at c.line_of.ensures.result_value; ref_ptr_value = rw c.refusal_of.ensures at c.line_of.ensures.ref_ptr_value }
+returns-clause-result_value c = rw c.refusal_of.ensures at c.line_of.ensures.result_value

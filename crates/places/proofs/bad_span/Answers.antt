@@ -6,7 +6,7 @@ use Rattle.places.proofs.bad_span.Goals as goal
 
 pub returns-then-r : goal.returns-then-r
 unfolding no_line
-returns-then-r c = c.nowhere.ensures ∙ bad_none _ _ _ c.if-r.true
+returns-then-r c = bad_none _ _ _ c.if-r.true
 
 pub returns-then-r-lt14 : goal.returns-then-r-lt14
 unfolding no_line

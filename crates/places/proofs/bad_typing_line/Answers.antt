@@ -2,6 +2,6 @@
 use Rattle.places.specs.Place.{bad_typing_line}
 use Rattle.places.proofs.bad_typing_line.Goals as goal
 
-pub returns : goal.returns
+pub returns-clause-result_value : goal.returns-clause-result_value
 unfolding bad_typing_line
-returns c = record { result_value = rw c.typing_refusal_of.ensures at c.line_of.ensures.result_value; ref_ptr_value = rw c.typing_refusal_of.ensures at c.line_of.ensures.ref_ptr_value }
+returns-clause-result_value c = rw c.typing_refusal_of.ensures at c.line_of.ensures.result_value

@@ -3,8 +3,5 @@ use Rattle.std.proofs.Common.{◌-◌, ◌≤◌, length, ◌≡◌}
 use Rattle.places.specs.Place.{span_of}
 use Rattle.places.proofs.line_span.Given as goal
 
-abbrev pub invariant-loop-left : goal.invariant-loop-left
-invariant-loop-left l = (l.at ≤ length l.text) × (span_of l.text 0 (l.number - 1) ≡ span_of l.text l.at (l.left - 1))
-
-abbrev pub decreases-loop-left : goal.decreases-loop-left
-decreases-loop-left l = l.left
+abbrev pub invariant-loop : goal.invariant-loop
+invariant-loop l = record { inside : l.at ≤ length l.text; line : span_of l.text 0 (l.number - 1) ≡ span_of l.text l.at (l.number - l.counter) }

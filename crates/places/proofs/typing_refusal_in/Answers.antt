@@ -8,15 +8,9 @@ pub returns-then-memory-lt-WORDS : goal.returns-then-memory-lt-WORDS
 unfolding lent_refusal
 returns-then-memory-lt-WORDS c = record { value = sym (memory_short _ _ _ _ c.if-memory-lt-WORDS.true); spared = spared_all }
 
-pub slice_bounds-typing_refusal_with-end-2 : goal.slice_bounds-typing_refusal_with-end-2
-slice_bounds-typing_refusal_with-end-2 c = simp length-take (omega arith)
-
-pub typing_refusal_with-requires : goal.typing_refusal_with-requires
-typing_refusal_with-requires c = simp length-take (omega arith)
-
 pub returns : goal.returns
 unfolding lent_refusal
 returns c = record {
-  value = c.typing_refusal_with.ensures ∙ sym (memory_enough _ _ _ _ c.if-memory-lt-WORDS.false);
-  spared = spared_past 3072 c.args.memory.now c.typing_refusal_with.new.ledger c.if-memory-lt-WORDS.false (omega (arith, c.typing_refusal_with.auto.ledger, length-take 3072 c.args.memory.now));
+  value = c.err.ensures.value ∙ c.read_both.ensures ∙ sym (memory_enough _ _ _ _ c.if-memory-lt-WORDS.false);
+  spared = spared_past 3072 c.args.memory.now c.read_both.new.ledger c.if-memory-lt-WORDS.false (omega (arith, c.read_both.auto.ledger, length-take 3072 c.args.memory.now));
 }

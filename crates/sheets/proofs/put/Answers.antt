@@ -1,11 +1,8 @@
 -- `put` writes the two words where the role's set stands.
-use Rattle.std.proofs.Common.{length-set, arith}
+use Rattle.std.proofs.Common.{arith}
 use Rattle.sheets.specs.Words.{place_of}
 use Rattle.sheets.specs.Places.{put-changed}
 use Rattle.sheets.proofs.put.Goals as goal
-
-pub bounds-words-at-2 : goal.bounds-words-at-2
-bounds-words-at-2 c = simp length-set (omega arith)
 
 pub returns : goal.returns
 unfolding place_of

@@ -1,11 +1,8 @@
 -- `set_length` goes through the members; the invariant: what is counted is the text of the roles passed.
-use Rattle.std.proofs.Common.{ℕ, ◌-◌, length, ◌≡◌}
+use Rattle.std.proofs.Common.{ℕ, length, ◌≡◌}
 use Rattle.spelling.proofs.TypingSteps.{set_below}
 use Rattle.spelling.proofs.Members.{SetPassed}
 use Rattle.spelling.proofs.set_length.Given as goal
 
 abbrev pub invariant-loop-role : goal.invariant-loop-role
-invariant-loop-role l = (from : ℕ) × SetPassed l.roles l.count l.initial.left from l.left l.role l.some × (l.at ≡ length (set_below l.roles l.initial.left from))
-
-abbrev pub decreases-loop-role : goal.decreases-loop-role
-decreases-loop-role l = l.count - l.role
+invariant-loop-role l = (from : ℕ) × SetPassed l.roles l.count l.fn.set from l.role-iterator.left l.some × (l.at ≡ length (set_below l.roles l.fn.set from))

@@ -8,43 +8,22 @@ use Rattle.spelling.proofs.TypingLengths.{lines_most, text_length}
 use Rattle.spelling.proofs.text_length.Goals as goal
 
 pub loop-role-init : goal.loop-role-init
-loop-role-init c = (omega arith, ap length (lines_start _ _ _))
-
-pub offset_bounds-t-role : goal.offset_bounds-t-role
-offset_bounds-t-role c = omega arith
-
-pub bounds-t-role : goal.bounds-t-role
-bounds-t-role c = omega arith
-
-pub offset_bounds-t-role-in-loop-role : goal.offset_bounds-t-role-in-loop-role
-offset_bounds-t-role-in-loop-role c = omega arith
-
-pub bounds-t-role-in-loop-role : goal.bounds-t-role-in-loop-role
-bounds-t-role-in-loop-role c = omega arith
-
-pub row_length-total-requires : goal.row_length-total-requires
-row_length-total-requires c = omega arith
+loop-role-init c = ap length (lines_start _ _ _)
 
 pub overflow_add-total : goal.overflow_add-total
 unfolding line_at meaning empty_set
 overflow_add-total c =
-    let next : c.loop-role.total + c.row_length-total.result ≡ length (lines_below c.args.count c.args.roles.now (meaning c.args.t) (c.loop-role.role + 1)) = counted (lines_grow _ _ (meaning c.args.t)) c.loop-role.role c.loop-role.invariant.1 (c.row_length-total.ensures ((meaning c.args.t).label c.loop-role.role)) in
+    let next : c.loop-role.total + c.row_length-total.result ≡ length (lines_below c.args.count c.args.roles.now (meaning c.args.t) (c.loop-role.role + 1)) = counted (lines_grow _ _ (meaning c.args.t)) c.loop-role.role c.loop-role.invariant (c.row_length-total.ensures ((meaning c.args.t).label c.loop-role.role)) in
     omega (arith, next, lines_most c.args.count c.args.roles.now (meaning c.args.t) (c.loop-role.role + 1) c.requires.1)
-
-pub overflow_add-role : goal.overflow_add-role
-overflow_add-role c = omega arith
-
-pub loop-role-smaller : goal.loop-role-smaller
-loop-role-smaller c = omega arith
 
 pub loop-role-preserved : goal.loop-role-preserved
 unfolding line_at meaning empty_set
 loop-role-preserved c =
-    let next : c.loop-role.total + c.row_length-total.result ≡ length (lines_below c.args.count c.args.roles.now (meaning c.args.t) (c.loop-role.role + 1)) = counted (lines_grow _ _ (meaning c.args.t)) c.loop-role.role c.loop-role.invariant.1 (c.row_length-total.ensures ((meaning c.args.t).label c.loop-role.role)) in
-    (omega arith, next)
+    let next : c.loop-role.total + c.row_length-total.result ≡ length (lines_below c.args.count c.args.roles.now (meaning c.args.t) (c.loop-role.role + 1)) = counted (lines_grow _ _ (meaning c.args.t)) c.loop-role.role c.loop-role.invariant (c.row_length-total.ensures ((meaning c.args.t).label c.loop-role.role)) in
+    next
 
 pub overflow_add-result : goal.overflow_add-result
 overflow_add-result c = omega (arith, lines_most c.args.count c.args.roles.now (meaning c.args.t) c.loop-role.role c.requires.1)
 
 pub returns : goal.returns
-returns c = omega (arith, text_length c.args.count c.args.roles.now c.args.t c.loop-role.role c.loop-role.invariant.0 c.loop-role-test.false)
+returns c = omega (arith, text_length c.args.count c.args.roles.now c.args.t c.loop-role.role (omega arith) (omega arith))

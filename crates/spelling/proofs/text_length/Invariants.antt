@@ -1,11 +1,8 @@
 -- `text_length` goes through the roles; the invariant: what is counted is the header and the lines passed.
-use Rattle.std.proofs.Common.{◌-◌, ◌≤◌, length, ◌≡◌}
+use Rattle.std.proofs.Common.{length, ◌≡◌}
 use Rattle.model.specs.Meaning.{meaning}
 use Rattle.spelling.proofs.TypingSteps.{lines_below}
 use Rattle.spelling.proofs.text_length.Given as goal
 
 abbrev pub invariant-loop-role : goal.invariant-loop-role
-invariant-loop-role l = (l.role ≤ l.count) × (l.total ≡ length (lines_below l.count l.roles (meaning l.t) l.role))
-
-abbrev pub decreases-loop-role : goal.decreases-loop-role
-decreases-loop-role l = l.count - l.role
+invariant-loop-role l = l.total ≡ length (lines_below l.count l.roles (meaning l.t) l.role)

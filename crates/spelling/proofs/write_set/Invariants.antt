@@ -1,12 +1,9 @@
 -- `write_set` goes through the members; the invariant: what is written is the text of the roles passed.
-use Rattle.std.proofs.Common.{ℕ, ◌-◌}
+use Rattle.std.proofs.Common.{ℕ}
 use Rattle.writing.proofs.Buffers.{Wrote}
 use Rattle.spelling.proofs.TypingSteps.{set_below}
 use Rattle.spelling.proofs.Members.{SetPassed}
 use Rattle.spelling.proofs.write_set.Given as goal
 
 abbrev pub invariant-loop-role : goal.invariant-loop-role
-invariant-loop-role l = (from : ℕ) × SetPassed l.roles l.count l.initial.left from l.left l.role l.some × Wrote (set_below l.roles l.initial.left from) l.initial.out l.at l.out
-
-abbrev pub decreases-loop-role : goal.decreases-loop-role
-decreases-loop-role l = l.count - l.role
+invariant-loop-role l = (from : ℕ) × SetPassed l.roles l.count l.fn.set from l.role-iterator.left l.some × Wrote (set_below l.roles l.fn.set from) l.initial.out l.at l.out

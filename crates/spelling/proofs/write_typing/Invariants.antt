@@ -1,5 +1,5 @@
 -- `write_typing` goes through the roles; the invariant: wherever the header was put, it and the lines of the roles passed are put now.
-use Rattle.std.proofs.Common.{ℕ, ◌-◌, ◌≤◌, List}
+use Rattle.std.proofs.Common.{ℕ, List}
 use Rattle.model.specs.Meaning.{meaning}
 use Rattle.text.specs.Forms.{bytes}
 use Rattle.writing.proofs.Buffers.{Wrote}
@@ -7,7 +7,4 @@ use Rattle.spelling.proofs.TypingSteps.{lines_below}
 use Rattle.spelling.proofs.write_typing.Given as goal
 
 abbrev pub invariant-loop-role : goal.invariant-loop-role
-invariant-loop-role l = (l.role ≤ l.count) × ((buffer : List ℕ) → Wrote (bytes "typing\t1\n") buffer l.initial.at l.initial.out → Wrote (lines_below l.count l.roles (meaning l.t) l.role) buffer l.at l.out)
-
-abbrev pub decreases-loop-role : goal.decreases-loop-role
-decreases-loop-role l = l.count - l.role
+invariant-loop-role l = (buffer : List ℕ) → Wrote (bytes "typing\t1\n") buffer l.initial.at l.initial.out → Wrote (lines_below l.count l.roles (meaning l.t) l.role) buffer l.at l.out

@@ -1,13 +1,13 @@
--- `write_sum` answers by the length that is written, which is 0 where the text does not fit.
+-- `write_sum` answers by the length that is written, where the text fits.
 use Rattle.std.proofs.Common.{sym, ap, ◌∙◌}
 use Rattle.tables.specs.NameLaws.{rows_length}
 use Rattle.judging.specs.Verdict.{pinned_names}
 use Rattle.summing.specs.SumOutcomes.{sum_unwritten, sum-written}
 use Rattle.summing.proofs.write_sum.Goals as goal
 
-pub returns-then-length-eq0 : goal.returns-then-length-eq0
-returns-then-length-eq0 c = sum_unwritten _ _ _ c.write_fitting-length.ensures c.if-length-eq0.true
+pub returns-in-None : goal.returns-in-None
+returns-in-None c = sum_unwritten _ _ _ c.write_fitting.ensures c.in-None.is
 
-pub returns : goal.returns
-returns c = sum-written _ _ _ c.write_fitting-length.ensures c.if-length-eq0.false
+pub returns-in-Some : goal.returns-in-Some
+returns-in-Some c = sum-written _ _ _ c.write_fitting.ensures c.in-Some.is
     (c.pinned.ensures ∙ ap (pinned_names c.args.t) (sym (rows_length c.args.roles c.args.names.now)))

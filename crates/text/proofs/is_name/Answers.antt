@@ -2,7 +2,7 @@
 use Rattle.std.proofs.Common.{rules, refl, sym, ◌∙◌}
 use Rattle.text.specs.Eights.{eight_bad, eight_good, eight_last}
 use Rattle.text.specs.Forms.{name_byte}
-use Rattle.text.specs.FormLaws.{name_short, name_long, name_fits}
+use Rattle.text.specs.FormLaws.{every_all, name_short, name_long, name_fits}
 use Rattle.text.proofs.is_name.Goals as goal
 
 pub returns-then-end-lt1 : goal.returns-then-end-lt1
@@ -12,7 +12,7 @@ pub returns-then-end-gt32 : goal.returns-then-end-gt32
 returns-then-end-gt32 c = sym (name_long _ c.if-end-gt32.true)
 
 pub returns-then-end-lt8 : goal.returns-then-end-lt8
-returns-then-end-lt8 c = c.few_in_name.ensures ∙ sym (name_fits _ c.if-end-lt1.false c.if-end-gt32.false)
+returns-then-end-lt8 c = c.few_in_name.ensures ∙ sym (every_all name_byte c.args.field.now) ∙ sym (name_fits _ c.if-end-lt1.false c.if-end-gt32.false)
 
 pub loop-at-init : goal.loop-at-init
 loop-at-init c = (search rules, refl)

@@ -1,4 +1,4 @@
--- `seek` passes over eight bytes at a time, as long as none of them is the mark; the kit's search finds it among what is left.
+-- `seek` passes over eight bytes at a time, as long as none of them is the mark; what is left is looked at one by one.
 use Rattle.std.proofs.Common.{ℕ, ◌-◌, ◌≤◌, length}
 use Rattle.text.specs.Pieces.{Sought}
 use Rattle.text.proofs.seek.Given as goal

@@ -1,17 +1,15 @@
 -- `mention_field` has four words for each mention.
+use Rattle.std.proofs.Common.{map, List, ℕ, ap, Bor}
 use Rattle.showing.specs.Fields.{field}
-use Rattle.wording.specs.Mentions.{mention_field}
-use Rattle.wording.specs.MentionLaws.{mention_known}
+use Rattle.wording.specs.Mentions.{mention_words}
+use Rattle.wording.specs.MentionLaws.{mention_made}
 use Rattle.wording.proofs.mention_field.Goals as goal
+use Rattle.wording.proofs.mention_field.Goals.{in-SumText, in-MergeText, in-Judging}
 
-pub returns-in-SumText : goal.returns-in-SumText
-unfolding mention_field field
-returns-in-SumText c = mention_known c.args.which c.in-SumText.is c.nth_field.ensures
-
-pub returns-in-MergeText : goal.returns-in-MergeText
-unfolding mention_field field
-returns-in-MergeText c = mention_known c.args.which c.in-MergeText.is c.nth_field-in-MergeText.ensures
-
-pub returns-in-Judging : goal.returns-in-Judging
-unfolding mention_field field
-returns-in-Judging c = mention_known c.args.which c.in-Judging.is c.nth_field-in-Judging.ensures
+pub returns : goal.returns
+unfolding mention_words field
+returns c = elim c.match-mention.branch [
+  | in-SumText w ↦ mention_made c.args.which w.in-SumText.is (ap (map (λ (word : Bor (List ℕ)). word.now)) w.words-is) c.nth_field.ensures
+  | in-MergeText w ↦ mention_made c.args.which w.in-MergeText.is (ap (map (λ (word : Bor (List ℕ)). word.now)) w.words-is) c.nth_field.ensures
+  | in-Judging w ↦ mention_made c.args.which w.in-Judging.is (ap (map (λ (word : Bor (List ℕ)). word.now)) w.words-is) c.nth_field.ensures
+]

@@ -1,23 +1,20 @@
--- `nth_field` asks for one number after another.
-use Rattle.wording.specs.Mentions.{nth_field}
-use Rattle.wording.specs.MentionLaws.{nth_known, nth_none}
+-- `nth_field` takes the word of its number, where there is one.
+use Rattle.std.proofs.Common.{arith}
+use Rattle.wording.specs.MentionLaws.{nth_known, nth_none, nth_zero, word_at, word_past, word_short}
 use Rattle.wording.proofs.nth_field.Goals as goal
 
-pub returns-then-which-eq1 : goal.returns-then-which-eq1
-unfolding nth_field
-returns-then-which-eq1 c = nth_known c.args.one.now c.args.two.now c.args.three.now c.args.four.now c.if-which-eq1.true c.word_field.ensures
+pub returns-in_default : goal.returns-in_default
+returns-in_default c = let none = c.in_default.ensures in nth_zero _ (omega (arith, none))
 
-pub returns-then-which-eq2 : goal.returns-then-which-eq2
-unfolding nth_field
-returns-then-which-eq2 c = nth_known c.args.one.now c.args.two.now c.args.three.now c.args.four.now c.if-which-eq2.true c.word_field-then-which-eq2.ensures
+pub word_field-requires : goal.word_field-requires
+word_field-requires c =
+    let got = c.in-Some-get.ensures.lookup in
+    (word_short _ c.in-Some.place c.requires.short (word_at c.args.words.now c.in-Some.place c.in-Some-get.word.now got.3.0 got.1), c.requires.room)
 
-pub returns-then-which-eq3 : goal.returns-then-which-eq3
-unfolding nth_field
-returns-then-which-eq3 c = nth_known c.args.one.now c.args.two.now c.args.three.now c.args.four.now c.if-which-eq3.true c.word_field-then-which-eq3.ensures
+pub returns-in-Some-get : goal.returns-in-Some-get
+returns-in-Some-get c =
+    let got = c.in-Some-get.ensures.lookup in
+    nth_known _ c.args.which c.in-Some.ensures (word_at c.args.words.now c.in-Some.place c.in-Some-get.word.now got.3.0 got.1) c.word_field.ensures
 
-pub returns-then-which-eq4 : goal.returns-then-which-eq4
-unfolding nth_field
-returns-then-which-eq4 c = nth_known c.args.one.now c.args.two.now c.args.three.now c.args.four.now c.if-which-eq4.true c.word_field-then-which-eq4.ensures
-
-pub returns : goal.returns
-returns c = nth_none c.args.one.now c.args.two.now c.args.three.now c.args.four.now c.if-which-eq1.false c.if-which-eq2.false c.if-which-eq3.false c.if-which-eq4.false
+pub returns-in-None : goal.returns-in-None
+returns-in-None c = let got = c.in-None.ensures.lookup in nth_none _ c.args.which c.in-Some.ensures (word_past c.args.words.now c.in-Some.place got.3)

@@ -1,5 +1,5 @@
 -- `merge_with` reads policy one, typing one and policy two, each refusal at once, and hands what is read on.
-use Rattle.std.proofs.Common.{ℕ, ◌≤◌, ◌-◌, List, ◌≡◌, sym, ap, length, drop, length-append, length-drop, arith}
+use Rattle.std.proofs.Common.{ℕ, ◌≤◌, ◌-◌, List, ◌≡◌, sym, ap, ◌∙◌, length, drop, length-append, length-drop, arith}
 use borrow.Rule.Slice.PartMut.{same_len_mid}
 use Rattle.ledgers.specs.Ledger.{ledger_words}
 use Rattle.reading.specs.Ledger.{ledger_says}
@@ -21,41 +21,41 @@ still memory words enough long = omega (arith, same_len_mid ledger_words (length
 pub slice_bounds-read_policy-end-2 : goal.slice_bounds-read_policy-end-2
 slice_bounds-read_policy-end-2 c = sym (one_room c.args.memory.now c.requires)
 
-pub read_policy-one-requires : goal.read_policy-one-requires
-read_policy-one-requires c = omega (arith, one_room c.args.memory.now c.requires)
+pub read_policy-requires : goal.read_policy-requires
+read_policy-requires c = omega (arith, one_room c.args.memory.now c.requires)
 
-pub returns-then-one-ne0 : goal.returns-then-one-ne0
-returns-then-one-ne0 c = meets_leaving (policy_one_refused _ _ _ _ _ (untold c.read_policy-one.ensures c.if-one-ne0.true))
+pub returns-in-Err : goal.returns-in-Err
+returns-in-Err c = meets_leaving (policy_one_refused _ _ _ _ _ (untold c.read_policy.ensures c.in-Err.is))
 
 pub slice_bounds-read_typing-end : goal.slice_bounds-read_typing-end
-slice_bounds-read_typing-end c = omega (arith, both c.args.memory.now c.read_policy-one.new.ledger c.requires c.read_policy-one.auto.ledger)
+slice_bounds-read_typing-end c = omega (arith, both c.args.memory.now c.read_policy.new.ledger c.requires c.read_policy.auto.ledger)
 
 pub slice_bounds-read_typing-end-2 : goal.slice_bounds-read_typing-end-2
-slice_bounds-read_typing-end-2 c = sym (one_room (with_one c.args.memory.now c.read_policy-one.new.ledger) (both c.args.memory.now c.read_policy-one.new.ledger c.requires c.read_policy-one.auto.ledger))
+slice_bounds-read_typing-end-2 c = sym (one_room (with_one c.args.memory.now c.read_policy.new.ledger) (both c.args.memory.now c.read_policy.new.ledger c.requires c.read_policy.auto.ledger))
 
-pub read_typing-first-requires : goal.read_typing-first-requires
-read_typing-first-requires c = let few = (told (read_one c.args.memory.now c.requires c.read_policy-one.ensures c.read_policy-one.auto.ledger) c.if-one-ne0.false).limited.roles in
-    (omega (arith, one_room (with_one c.args.memory.now c.read_policy-one.new.ledger) (both c.args.memory.now c.read_policy-one.new.ledger c.requires c.read_policy-one.auto.ledger), few), few)
+pub read_typing-requires : goal.read_typing-requires
+read_typing-requires c = let few = (told (read_one c.args.memory.now c.requires c.read_policy.ensures c.read_policy.auto.ledger) c.in-Ok.is).limited.roles in
+    (omega (arith, one_room (with_one c.args.memory.now c.read_policy.new.ledger) (both c.args.memory.now c.read_policy.new.ledger c.requires c.read_policy.auto.ledger), few), few)
 
-pub returns-then-first-ne0 : goal.returns-then-first-ne0
-returns-then-first-ne0 c = meets_leaving (typing_one_refused _ _ _ _ _ (policy_read (told (read_one c.args.memory.now c.requires c.read_policy-one.ensures c.read_policy-one.auto.ledger) c.if-one-ne0.false)) (typing_refused _ _ _ c.read_typing-first.ensures c.if-first-ne0.true))
+pub returns-in-Err-read_typing : goal.returns-in-Err-read_typing
+returns-in-Err-read_typing c = meets_leaving (typing_one_refused _ _ _ _ _ (policy_read (told (read_one c.args.memory.now c.requires c.read_policy.ensures c.read_policy.auto.ledger) c.in-Ok.is)) (typing_refused _ _ _ (sym c.in-Err-read_typing.is ∙ c.read_typing.ensures)))
 
 pub slice_bounds-read_policy-count : goal.slice_bounds-read_policy-count
-slice_bounds-read_policy-count c = omega (arith, both c.args.memory.now c.read_policy-one.new.ledger c.requires c.read_policy-one.auto.ledger)
+slice_bounds-read_policy-count c = omega (arith, both c.args.memory.now c.read_policy.new.ledger c.requires c.read_policy.auto.ledger)
 
-pub read_policy-two-requires : goal.read_policy-two-requires
-read_policy-two-requires c = two_room (with_one c.args.memory.now c.read_policy-one.new.ledger) (both c.args.memory.now c.read_policy-one.new.ledger c.requires c.read_policy-one.auto.ledger)
+pub read_policy-requires-2 : goal.read_policy-requires-2
+read_policy-requires-2 c = two_room (with_one c.args.memory.now c.read_policy.new.ledger) (both c.args.memory.now c.read_policy.new.ledger c.requires c.read_policy.auto.ledger)
 
-pub returns-then-two-ne0 : goal.returns-then-two-ne0
-returns-then-two-ne0 c = let t = typing_read_lem _ _ _ c.read_typing-first.ensures c.if-first-ne0.false in
-    meets_leaving (policy_two_refused _ _ _ _ _ (policy_read (told (read_one c.args.memory.now c.requires c.read_policy-one.ensures c.read_policy-one.auto.ledger) c.if-one-ne0.false)) t.is (untold c.read_policy-two.ensures c.if-two-ne0.true))
+pub returns-in-Err-read_policy : goal.returns-in-Err-read_policy
+returns-in-Err-read_policy c = let t = typing_read_lem _ _ _ (sym c.in-Ok-read_typing.is ∙ c.read_typing.ensures) in
+    meets_leaving (policy_two_refused _ _ _ _ _ (policy_read (told (read_one c.args.memory.now c.requires c.read_policy.ensures c.read_policy.auto.ledger) c.in-Ok.is)) t.is (untold c.read_policy-2.ensures c.in-Err-read_policy.is))
 
 pub merge_typed-requires : goal.merge_typed-requires
-merge_typed-requires c = (omega (arith, still (with_one c.args.memory.now c.read_policy-one.new.ledger) c.read_policy-two.new.ledger (both c.args.memory.now c.read_policy-one.new.ledger c.requires c.read_policy-one.auto.ledger) c.read_policy-two.auto.ledger), (told (read_one c.args.memory.now c.requires c.read_policy-one.ensures c.read_policy-one.auto.ledger) c.if-one-ne0.false).limited, (told c.read_policy-two.ensures c.if-two-ne0.false).limited)
+merge_typed-requires c = (omega (arith, still (with_one c.args.memory.now c.read_policy.new.ledger) c.read_policy-2.new.ledger (both c.args.memory.now c.read_policy.new.ledger c.requires c.read_policy.auto.ledger) c.read_policy-2.auto.ledger), (told (read_one c.args.memory.now c.requires c.read_policy.ensures c.read_policy.auto.ledger) c.in-Ok.is).limited, (told c.read_policy-2.ensures c.in-Ok-read_policy.is).limited)
 
 pub returns : goal.returns
-returns c = let t = typing_read_lem _ _ _ c.read_typing-first.ensures c.if-first-ne0.false in
-    let q = told (read_two (with_one c.args.memory.now c.read_policy-one.new.ledger) (both c.args.memory.now c.read_policy-one.new.ledger c.requires c.read_policy-one.auto.ledger) c.read_policy-two.ensures c.read_policy-two.auto.ledger) c.if-two-ne0.false in
+returns c = let t = typing_read_lem _ _ _ (sym c.in-Ok-read_typing.is ∙ c.read_typing.ensures) in
+    let q = told (read_two (with_one c.args.memory.now c.read_policy.new.ledger) (both c.args.memory.now c.read_policy.new.ledger c.requires c.read_policy.auto.ledger) c.read_policy-2.ensures c.read_policy-2.auto.ledger) c.in-Ok-read_policy.is in
     meets_as
-    (policies_read _ _ _ _ _ (policy_read (told (read_one c.args.memory.now c.requires c.read_policy-one.ensures c.read_policy-one.auto.ledger) c.if-one-ne0.false)) t.is (policy_read q) (ap (λ (words : List ℕ). ledger_says words c.read_policy-one.result.counts) (one_kept (with_one c.args.memory.now c.read_policy-one.new.ledger) (both c.args.memory.now c.read_policy-one.new.ledger c.requires c.read_policy-one.auto.ledger) c.read_policy-two.new.ledger)) t.laid)
+    (policies_read _ _ _ _ _ (policy_read (told (read_one c.args.memory.now c.requires c.read_policy.ensures c.read_policy.auto.ledger) c.in-Ok.is)) t.is (policy_read q) (ap (λ (words : List ℕ). ledger_says words c.in-Ok.counts) (one_kept (with_one c.args.memory.now c.read_policy.new.ledger) (both c.args.memory.now c.read_policy.new.ledger c.requires c.read_policy.auto.ledger) c.read_policy-2.new.ledger)) t.laid)
     c.merge_typed.ensures

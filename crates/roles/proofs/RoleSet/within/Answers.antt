@@ -1,7 +1,7 @@
 -- `within` asks whether the meeting is the set itself, by what its callees promise.
-use Rattle.roles.specs.Sets.{includes}
+use Rattle.roles.specs.Sets.{includes, same_set}
 use Rattle.roles.proofs.RoleSet.within.Goals as goal
 
 pub returns : goal.returns
-unfolding includes
+unfolding includes same_set
 returns c = cc

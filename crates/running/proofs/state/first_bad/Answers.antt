@@ -1,53 +1,41 @@
 -- `first_bad` goes through the people; the invariant: none before the place is bad.
-use Rattle.std.proofs.Common.{ℕ, ◌+◌, ◌≤◌, ◌<◌, lt-ltb, le-ltb, true, false, List, ◌≡◌, sym, ap, ◌∙◌, add-one, arith}
+use Rattle.std.proofs.Common.{ℕ, ◌+◌, List, ◌≡◌, sym, ap, ◌∙◌, add-one}
+use Rattle.std.specs.Prelude.{Option, Some, None, position, option_and_then}
+use Rattle.std.specs.Option.{is_some}
 use Rattle.roles.specs.declared.RoleSet.{RoleSet}
 use Rattle.model.specs.declared.Person.{Person}
 use Rattle.model.specs.Policy.{State, nobody, person}
-use Rattle.ledgers.specs.Parts.{row_at, rows_in}
 use Rattle.ledgers.specs.PartLaws.{rows_at}
-use Rattle.ledgers.specs.Ledger.{people, goal_sets}
-use Rattle.steps.specs.First.{first}
-use Rattle.steps.specs.Tests.{own_goal, bad_person, goal_of, first_bad}
-use Rattle.running.specs.Looking.{passed_none, passed_more, first_here, first_nowhere}
+use Rattle.ledgers.specs.Ledger.{people}
+use Rattle.steps.specs.Tests.{own_goal, bad_person, found_at, first_bad}
+use Rattle.running.specs.Looking.{passed_more, first_here, first_nowhere}
 use Rattle.running.proofs.state.first_bad.Goals as goal
 
--- what the number of the first says of the answer
+-- what the place of the first says of the answer
 module _ (σ : State) (goals : List RoleSet) where
-  answer-here : (place : ℕ) {goal : ℕ} → first (bad_person goals) σ ≡ place + 1 → goal ≡ own_goal goals (person σ place) → record { user = place + 1; goal = goal } ≡ first_bad σ goals
-  unfolding first_bad goal_of
-  answer-here place number own = rw (number, add-one place, own)
+  answer-here : (place : ℕ) {goal : ℕ} → position (bad_person goals) σ ≡ Some place → own_goal goals (person σ place) ≡ Some goal → Some (record { user = place + 1; goal = goal }) ≡ first_bad σ goals
+  unfolding first_bad found_at
+  answer-here place {goal} first own =
+      (λ i. Some (record { user = add-one place i; goal = goal })) ∙ sym (ap (option_and_then (found_at σ goals)) first ∙ rw own)
 
-  answer-none : first (bad_person goals) σ ≡ 0 → record { user = 0; goal = 0 } ≡ first_bad σ goals
-  unfolding first_bad goal_of
-  answer-none number = rw number
+  answer-none : position (bad_person goals) σ ≡ None → None ≡ first_bad σ goals
+  unfolding first_bad
+  answer-none nowhere = sym (ap (option_and_then (found_at σ goals)) nowhere)
 
 -- what a person's own goal says of the test
-module _ (goals : List RoleSet) (p : Person) {goal : ℕ} (own : goal ≡ own_goal goals p) where
-  is-bad : 0 < goal → bad_person goals p ≡ true
-  unfolding bad_person
-  is-bad h = lt-ltb 0 (own_goal goals p) (omega arith)
+bad-by : (goals : List RoleSet) {p q : Person} {own : Option ℕ} → own ≡ own_goal goals p → p ≡ q → {goal : Option ℕ} → own ≡ goal → bad_person goals q ≡ is_some goal
+unfolding bad_person
+bad-by goals own same is = cc
 
-  not-bad : goal ≤ 0 → bad_person goals p ≡ false
-  unfolding bad_person
-  not-bad h = le-ltb 0 (own_goal goals p) (omega arith)
-
-pub loop-place-init : goal.loop-place-init
-loop-place-init c = passed_none
-
-pub overflow_add-user : goal.overflow_add-user
-overflow_add-user c = omega arith
-
-pub returns-then-goal-gt0 : goal.returns-then-goal-gt0
+pub returns-in-Some : goal.returns-in-Some
 unfolding person
-returns-then-goal-gt0 c = let own : c.own_goal-goal.result ≡ own_goal (rows_in goal_sets c.args.ledger.now c.args.count) (row_at people c.args.ledger.now c.loop-place.place) = c.own_goal-goal.ensures ∙ ap (own_goal _) c.person-person.ensures in
-    answer-here _ _ c.loop-place.place (first_here c.loop-place.invariant c.loop-place-test.true (is-bad _ _ own c.if-goal-gt0.true))
-    (own ∙ ap (own_goal _) (sym (rows_at people _ _ c.loop-place.place nobody c.loop-place-test.true)))
-
-pub loop-place-smaller : goal.loop-place-smaller
-loop-place-smaller c = omega arith
+returns-in-Some c =
+    let test = bad-by _ c.own_goal.ensures c.person-person.ensures c.in-Some.is in
+    let row = rows_at people _ _ c.loop-place.place nobody c.loop-place-test.true in
+    answer-here _ _ c.loop-place.place (first_here c.loop-place.invariant c.loop-place-test.true test) (ap (own_goal _) (row ∙ sym c.person-person.ensures) ∙ sym c.own_goal.ensures ∙ c.in-Some.is)
 
 pub loop-place-preserved : goal.loop-place-preserved
-loop-place-preserved c = passed_more c.loop-place.invariant c.loop-place-test.true (not-bad _ _ (c.own_goal-goal.ensures ∙ ap (own_goal _) c.person-person.ensures) c.if-goal-gt0.false)
+loop-place-preserved c = passed_more c.loop-place.invariant c.loop-place-test.true (bad-by _ c.own_goal.ensures c.person-person.ensures c.in_default.is)
 
 pub returns : goal.returns
 returns c = answer-none _ _ (first_nowhere c.loop-place.invariant c.loop-place-test.false)

@@ -1,5 +1,4 @@
 -- `first_bad` goes through the people; the invariant: none before the place is bad.
-use Rattle.std.proofs.Common.{◌-◌}
 use Rattle.ledgers.specs.Parts.{rows_in}
 use Rattle.ledgers.specs.Ledger.{people, goal_sets}
 use Rattle.steps.specs.Tests.{bad_person}
@@ -8,6 +7,3 @@ use Rattle.running.proofs.state.first_bad.Given as goal
 
 abbrev pub invariant-loop-place : goal.invariant-loop-place
 invariant-loop-place l = Passed people (bad_person (rows_in goal_sets l.ledger l.count)) l.ledger l.users l.place
-
-abbrev pub decreases-loop-place : goal.decreases-loop-place
-decreases-loop-place l = l.users - l.place

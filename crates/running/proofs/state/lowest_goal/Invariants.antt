@@ -1,5 +1,4 @@
 -- `lowest_goal` goes through the goals; the invariant: none before the place is held whole.
-use Rattle.std.proofs.Common.{◌-◌}
 use Rattle.roles.specs.Sets.{includes}
 use Rattle.ledgers.specs.Ledger.{goal_sets}
 use Rattle.running.specs.Looking.{Passed}
@@ -7,6 +6,3 @@ use Rattle.running.proofs.state.lowest_goal.Given as goal
 
 abbrev pub invariant-loop-place : goal.invariant-loop-place
 invariant-loop-place l = Passed goal_sets (includes l.roles) l.ledger l.count l.place
-
-abbrev pub decreases-loop-place : goal.decreases-loop-place
-decreases-loop-place l = l.count - l.place

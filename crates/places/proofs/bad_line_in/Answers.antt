@@ -1,8 +1,0 @@
--- `bad_line_in` is the part at the place of the refusal of the two texts in that memory.
-use Rattle.places.proofs.bad_line_in.Goals as goal
-
-pub returns : goal.returns
-returns c = record {
-  line_at = record { bytes = rw c.refusal_of_in.ensures.value at c.line_of.ensures.result_value; begins = rw c.refusal_of_in.ensures.value at c.line_of.ensures.ref_ptr_value };
-  spared = c.refusal_of_in.ensures.spared;
-}
