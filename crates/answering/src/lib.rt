@@ -17,7 +17,7 @@ use lines::Counts;
 use model::Typing;
 use reading::read_policy;
 use running::{TraceVerdict, run_trace};
-use tables::Name;
+use tables::{Name, Names};
 use typings::kind::is_typing;
 use typings::read_typing;
 use walking::{Fault, Refusal};
@@ -72,7 +72,11 @@ fn typing_answer(evidence: &[u8], ledger: &[u64], c: Counts) -> Result<Answer, R
     requires { (ledger_words ≤ length ledger.now) × Limited c }
     ensures { answered result ≡ typing_answer c (subject_of (ledger_says ledger.now c)) (read_typing (rows c.roles ledger.now) evidence.now) }
 {
-    let t = read_typing(evidence, ledger, c.roles)?;
+    let roles = Names {
+        words: ledger,
+        count: c.roles,
+    };
+    let t = read_typing(evidence, roles)?;
     Ok(judged(judge_typing(ledger, c, t), c, t))
 }
 

@@ -59,6 +59,7 @@ fn name_at(field: &[u8], heads: usize, from: usize) -> Name
 }
 
 // Looks for the name that begins at a place, from a head of the tree on: the gap where it is missing, none where it is found.
+// It goes on in the name and in the tree at once, and by no count.
 fn seek(field: &[u8], links: &[u16], heads: usize, head: usize, from: usize) -> Option<Gap>
     requires { (length field.now ≤ 32768) × (from ≤ length field.now) × (heads ≤ 4096) × (head < heads) × Planted field.now links.now heads from }
     ensures { Searched field.now links.now heads head from result }
@@ -92,7 +93,7 @@ fn seek(field: &[u8], links: &[u16], heads: usize, head: usize, from: usize) -> 
 }
 
 // Puts names into the tree, which has no link yet, as long as there is a slot for the next link.
-// Answers the place up to which the names are in it, none where one stands twice.
+// Answers the place up to which the names are in it, none where one stands twice. It goes by the names' ends, each found by `name_at`.
 fn fill(field: &[u8], links: &mut [u16], heads: usize) -> Option<usize>
     requires { (length field.now ≤ 32768) × Laid links.old heads × Blank links.old }
     ensures { Filled field.now links.new heads result }
@@ -111,7 +112,7 @@ fn fill(field: &[u8], links: &mut [u16], heads: usize) -> Option<usize>
     Some(from)
 }
 
-// Whether a name from a place on is in the tree of the names before it.
+// Whether a name from a place on is in the tree of the names before it. It goes by the names' ends, as `fill` does.
 fn meets(field: &[u8], links: &[u16], heads: usize, limit: usize) -> bool
     requires { (length field.now ≤ 32768) × (limit ≤ suc (length field.now)) × Laid links.now heads × Tree field.now links.now heads limit }
     ensures { Met field.now limit result }
@@ -158,7 +159,7 @@ fn block(field: &[u8]) -> Option<usize>
     block_with(field, &mut many, 1408)
 }
 
-// Whether some name stands twice in a field of names joined by commas.
+// Whether some name stands twice in a field of names joined by commas. It goes by the ends of blocks, each found by `block`.
 pub fn repeats(field: &[u8]) -> bool
     requires { length field.now ≤ 32768 }
     ensures { result ≡ repeated (split 44 field.now) }

@@ -12,15 +12,13 @@ use Rattle.model.specs.declared.Person.{Person}
 use Rattle.model.specs.Policy.{no_assign, no_revoke, person, nobody}
 use Rattle.text.specs.Forms.{bytes}
 use Rattle.tables.specs.declared.Name.{Name}
-use Rattle.tables.specs.Names.{name_at, rows}
+use Rattle.tables.specs.Names.{packed, name_at}
 use Rattle.ledgers.specs.Parts.{Part, row_at, rows_in}
 use Rattle.ledgers.specs.PartLaws.{rows_length, rows_at}
 use Rattle.ledgers.specs.Ledger.{role_names, user_names, people, assign_rules, revoke_rules, goal_sets}
-use Rattle.ledgers.specs.LedgerLaws.{roles-rows, users_lent}
 use Rattle.lines.specs.declared.Counts.{Counts}
 use Rattle.lines.specs.declared.Entry.{Entry}
 use Rattle.reading.specs.Ledger.{ledger_says}
-use Rattle.writing.proofs.Buffers.{from}
 use Rattle.spelling.specs.Growth.{Grows}
 use Rattle.drafting.specs.declared.Block.{Block}
 use Rattle.inscribing.specs.LineText.{line_text, lines_text}
@@ -107,6 +105,10 @@ below part words count size inside = omega (arith, rows_length part words count)
 
 module _ (words : List ℕ) (c : Counts) {block : Block} (place : ℕ) where
   -- its place is below the count of its kind
+  pub role_below : block ≡ Block.Roles → place < block_size (ledger_says words c) block → place < c.roles
+  unfolding block_size ledger_says
+  role_below is = below role_names words c.roles (ap (block_size (ledger_says words c)) is)
+
   pub user_below : block ≡ Block.Users → place < block_size (ledger_says words c) block → place < c.users
   unfolding block_size ledger_says
   user_below is = below user_names words c.users (ap (block_size (ledger_says words c)) is)
@@ -128,14 +130,14 @@ module _ (words : List ℕ) (c : Counts) {block : Block} (place : ℕ) where
   goal_below is = below goal_sets words c.goals (ap (block_size (ledger_says words c)) is)
 
   -- and its entry is that of what stands there
-  pub role_element : {name : Name} → block ≡ Block.Roles → name ≡ name_at (rows c.roles words) place → Entry.Role name ∷ [] ≡ element (ledger_says words c) block place
-  unfolding element ledger_says
-  role_element is named = rw (is, named, roles-rows words c.roles)
+  pub role_element : {name : Name} → block ≡ Block.Roles → place < block_size (ledger_says words c) block → name ≡ row_at role_names words place → Entry.Role name ∷ [] ≡ element (ledger_says words c) block place
+  unfolding element ledger_says name_at
+  role_element is inside named = rw (is, named, rows_at role_names words c.roles place (packed []) (role_below is inside))
 
-  pub user_element : {name : Name} {user : Person} → block ≡ Block.Users → place < block_size (ledger_says words c) block → name ≡ name_at (rows c.users (from 512 words)) place → user ≡ row_at people words place
+  pub user_element : {name : Name} {user : Person} → block ≡ Block.Users → place < block_size (ledger_says words c) block → name ≡ row_at user_names words place → user ≡ row_at people words place
       → Entry.User name user.clearance ∷ [] ≡ element (ledger_says words c) block place
-  unfolding element ledger_says person
-  user_element is inside named stands = rw (is, named, stands, users_lent words c.users, rows_at people words c.users place nobody (user_below is inside))
+  unfolding element ledger_says person name_at
+  user_element is inside named stands = rw (is, named, stands, rows_at user_names words c.users place (packed []) (user_below is inside), rows_at people words c.users place nobody (user_below is inside))
 
   pub has_element : block ≡ Block.Has → element (ledger_says words c) Block.Has place ≡ element (ledger_says words c) block place
   has_element is = rw is

@@ -10,9 +10,8 @@ ghost use Rattle.inscribing.specs.Adding.{Adds};
 
 use crate::Block;
 use inscribing::write_line;
-use ledgers::USERS;
+use ledgers::{ASSIGN_RULES, GOALS, PEOPLE, REVOKE_RULES, ROLE_NAMES, USER_NAMES, row_at};
 use lines::{Counts, Entry};
-use tables::name_at;
 
 // Writes the has line of a user and a role from a place on, if the user holds the role, and answers the place past it.
 fn write_has(
@@ -39,7 +38,7 @@ fn write_held(out: &mut [u8], at: usize, ledger: &[u64], c: Counts, user: usize)
     requires { (ledger_words ≤ length ledger.now) × Limited c × (user < c.users) × (at + length (lines_in ledger.now c (element (ledger_says ledger.now c) Block.Has user)) ≤ length out.old) }
     ensures { Adds (lines_in ledger.now c (element (ledger_says ledger.now c) Block.Has user)) at out.old result out.new }
 {
-    let holder = ledgers::person(ledger, user);
+    let holder = row_at(ledger, PEOPLE, user);
     let held = holder.roles;
     let mut to = at;
     for role in 0..c.roles {
@@ -77,25 +76,25 @@ fn write_element(
 {
     match block {
         Block::Roles => {
-            let name = name_at(ledger, c.roles, place);
+            let name = row_at(ledger, ROLE_NAMES, place);
             write_line(out, at, ledger, c, Entry::Role(name))
         }
         Block::Users => {
-            let name = name_at(&ledger[USERS..], c.users, place);
-            let user = ledgers::person(ledger, place);
+            let name = row_at(ledger, USER_NAMES, place);
+            let user = row_at(ledger, PEOPLE, place);
             write_line(out, at, ledger, c, Entry::User(name, user.clearance))
         }
         Block::Has => write_held(out, at, ledger, c, place),
         Block::Assigns => {
-            let rule = ledgers::assign(ledger, place);
+            let rule = row_at(ledger, ASSIGN_RULES, place);
             write_line(out, at, ledger, c, Entry::Assign(rule))
         }
         Block::Revokes => {
-            let rule = ledgers::revoke(ledger, place);
+            let rule = row_at(ledger, REVOKE_RULES, place);
             write_line(out, at, ledger, c, Entry::Revoke(rule))
         }
         Block::Goals => {
-            let goal = ledgers::goal(ledger, place);
+            let goal = row_at(ledger, GOALS, place);
             write_line(out, at, ledger, c, Entry::Goal(goal))
         }
     }

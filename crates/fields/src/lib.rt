@@ -1,13 +1,14 @@
 // One field of a line: a name or a set of names against the names above, and what is wrong with it.
 #![tactic(auto)]
 
-ghost use Rattle.std.specs.Prelude.{◌≡◌, ◌*◌, ◌≤◌, length, true, false};
+ghost use Rattle.std.specs.Prelude.{◌≡◌, ◌≤◌, length, true, false};
 ghost use Rattle.text.specs.Forms.{bytes, every, is_name};
-ghost use Rattle.tables.specs.Names.{rows};
+ghost use Rattle.tables.specs.Listed.{rows_of};
 ghost use Rattle.text.specs.Pieces.{split, same_bytes};
 ghost use Rattle.fields.specs.Fields.{worse, both_read, name_read, set_read, are_set, set_fault};
 
 use roles::RoleSet;
+use tables::Names;
 use walking::{Fault, pass};
 
 // The worse of two faults: malformed where one of them is, and else the first.
@@ -34,17 +35,16 @@ pub fn both<A: Copy, B: Copy>(a: Result<A, Fault>, b: Result<B, Fault>) -> Resul
     }
 }
 
-// A name field read against the first `count` names of a table: the name's place.
+// A name field read against a table: the name's place.
 #[tactic(auto, using(crate::specs::FieldLaws::found_read), unfolding(crate::specs::Fields::name_read, crate::specs::Fields::field_read))]
-pub fn read_name(field: &[u8], table: &[u64], count: usize) -> Result<usize, Fault>
-    requires { 4 * count ≤ length table.now }
-    ensures { result ≡ name_read (rows count table.now) field.now }
+pub fn read_name(field: &[u8], names: Names) -> Result<usize, Fault>
+    ensures { result ≡ name_read (rows_of names.entry) field.now }
 {
     pass(text::is_name(field), Fault::Malformed)?;
-    tables::find(table, count, tables::pack(field)).ok_or(Fault::Undeclared)
+    names.find(tables::pack(field)).ok_or(Fault::Undeclared)
 }
 
-// Whether every piece of a field between commas is a name.
+// Whether every piece of a field between commas is a name. It goes by the commas, each found by `text::seek`.
 fn all_names(field: &[u8]) -> bool
     ensures { result ≡ every is_name (split 44 field.now) }
 {
@@ -96,10 +96,10 @@ fn set_fault(field: &[u8], fault: Fault) -> Fault
     fault
 }
 
-// A set field read against the first `count` role names of a table: the roles.
-pub fn read_set(field: &[u8], table: &[u64], count: usize) -> Result<RoleSet, Fault>
-    requires { (length field.now ≤ 32768) × (4 * count ≤ length table.now) × (count ≤ 128) }
-    ensures { result ≡ set_read (rows count table.now) field.now }
+// A set field read against a table of role names: the roles. It goes by the commas, each found by `text::seek`.
+pub fn read_set(field: &[u8], names: Names) -> Result<RoleSet, Fault>
+    requires { (length field.now ≤ 32768) × (names.count ≤ 128) }
+    ensures { result ≡ set_read (rows_of names.entry) field.now }
 {
     let mut roles = RoleSet::empty();
     if text::same(field, b"-") {
@@ -108,7 +108,7 @@ pub fn read_set(field: &[u8], table: &[u64], count: usize) -> Result<RoleSet, Fa
     let mut at = 0;
     loop {
         let end = text::seek(field, at, b',');
-        let place = match read_name(&field[at..end], table, count) {
+        let place = match read_name(&field[at..end], names) {
             Ok(place) => place,
             Err(fault) => return Err(set_fault(field, fault)),
         };

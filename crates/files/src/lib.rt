@@ -9,7 +9,8 @@ use std::io;
 use std::io::Read;
 use std::rt::{Env, Files};
 
-// Reads from an open file up to its end or the buffer's, and answers how many bytes of it stand at the start of the buffer.
+// Reads from an open file up to its end or the buffer's, and answers how many bytes of it stand at the start of the buffer. It goes by what
+// each read says.
 fn load_open(file: &mut impl Read, buffer: &mut [u8]) -> io::Result<usize>
     ensures { IfOk result (λ count. IsPrefixLen count buffer.new) }
 {

@@ -1,11 +1,11 @@
 // The line of an entry, written field after field from a place of a lent buffer on, in the room that it takes.
 #![tactic(auto)]
 
-ghost use Rattle.std.specs.Prelude.{[], ◌∷◌, ◌++◌, ◌≡◌, ◌+◌, ◌*◌, ◌≤◌, length};
+ghost use Rattle.std.specs.Prelude.{[], ◌∷◌, ◌++◌, ◌≡◌, ◌+◌, ◌≤◌, length};
 ghost use Rattle.ledgers.specs.Ledger.{ledger_words};
 ghost use Rattle.lines.specs.declared.Entry.{Entry};
 ghost use Rattle.reading.specs.Ledger.{Limited};
-ghost use Rattle.tables.specs.Names.{rows};
+ghost use Rattle.tables.specs.Listed.{rows_of};
 ghost use Rattle.writing.specs.Written.{spelled, put};
 ghost use Rattle.showing.specs.Fields.{field};
 ghost use Rattle.spelling.specs.TypingText.{set_text};
@@ -19,7 +19,7 @@ use model::Assign;
 use roles::RoleSet;
 use showing::{end_line, name_field};
 use spelling::write_set;
-use tables::{Name, name_at};
+use tables::{Name, Names};
 use writing::pieces::write_bytes;
 
 // Writes bytes from a place on, and answers the place past them.
@@ -31,13 +31,13 @@ fn write_piece(out: &mut [u8], at: usize, part: &[u8]) -> usize
 }
 
 // Writes a set's field from a place on, and answers the place past it.
-fn set_field(out: &mut [u8], at: usize, roles: &[u64], count: usize, set: RoleSet) -> usize
-    requires { (4 * count ≤ length roles.now) × (count ≤ 128) × (at + length (field (set_text (rows count roles.now) set)) ≤ length out.old) }
-    ensures { Adds (field (set_text (rows count roles.now) set)) at out.old result out.new }
+fn set_field(out: &mut [u8], at: usize, roles: Names, set: RoleSet) -> usize
+    requires { (roles.count ≤ 128) × (at + length (field (set_text (rows_of roles) set)) ≤ length out.old) }
+    ensures { Adds (field (set_text (rows_of roles.entry) set)) at out.old result out.new }
 {
     out[at] = b'\t';
     let from = at + 1;
-    from + write_set(&mut out[from..], roles, count, set)
+    from + write_set(&mut out[from..], roles, set)
 }
 
 // Writes a word and a name's field from a place on, and answers the place past them.
@@ -71,26 +71,26 @@ fn user_line(out: &mut [u8], at: usize, name: Name, clearance: bool) -> usize
 }
 
 // Writes a goal's line without its LF from a place on, and answers the place past it.
-fn goal_line(out: &mut [u8], at: usize, roles: &[u64], count: usize, goal: RoleSet) -> usize
-    requires { (4 * count ≤ length roles.now) × (count ≤ 128) × (at + length (line_text (rows count roles.now) [] (Entry.Goal goal)) ≤ length out.old) }
-    ensures { Adds (line_text (rows count roles.now) [] (Entry.Goal goal)) at out.old result out.new }
+fn goal_line(out: &mut [u8], at: usize, roles: Names, goal: RoleSet) -> usize
+    requires { (roles.count ≤ 128) × (at + length (line_text (rows_of roles) [] (Entry.Goal goal)) ≤ length out.old) }
+    ensures { Adds (line_text (rows_of roles.entry) [] (Entry.Goal goal)) at out.old result out.new }
 {
     let from = write_piece(out, at, b"goal");
-    set_field(out, from, roles, count, goal)
+    set_field(out, from, roles, goal)
 }
 
 // Writes an assign rule's line without its LF from a place on, and answers the place past it.
-fn assign_line(out: &mut [u8], at: usize, roles: &[u64], count: usize, rule: Assign) -> usize
-    requires { (4 * count ≤ length roles.now) × (count ≤ 128) × (at + length (line_text (rows count roles.now) [] (Entry.Assign rule)) ≤ length out.old) }
-    ensures { Adds (line_text (rows count roles.now) [] (Entry.Assign rule)) at out.old result out.new }
+fn assign_line(out: &mut [u8], at: usize, roles: Names, rule: Assign) -> usize
+    requires { (roles.count ≤ 128) × (at + length (line_text (rows_of roles) [] (Entry.Assign rule)) ≤ length out.old) }
+    ensures { Adds (line_text (rows_of roles.entry) [] (Entry.Assign rule)) at out.old result out.new }
 {
-    let admin = name_at(roles, count, rule.admin);
-    let target = name_at(roles, count, rule.target);
+    let admin = roles.at(rule.admin);
+    let target = roles.at(rule.target);
     let positive = rule.positive;
     let negative = rule.negative;
     let from = named_line(out, at, b"assign", admin);
-    let second = set_field(out, from, roles, count, positive);
-    let third = set_field(out, second, roles, count, negative);
+    let second = set_field(out, from, roles, positive);
+    let third = set_field(out, second, roles, negative);
     name_field(out, third, target)
 }
 
@@ -99,22 +99,30 @@ fn write_entry(out: &mut [u8], at: usize, ledger: &[u64], c: Counts, entry: Entr
     requires { (ledger_words ≤ length ledger.now) × Limited c × (at + length (line_in ledger.now c entry) ≤ length out.old) }
     ensures { Adds (line_in ledger.now c entry) at out.old result out.new }
 {
+    let roles = Names {
+        words: ledger,
+        count: c.roles,
+    };
+    let users = Names {
+        words: &ledger[USERS..],
+        count: c.users,
+    };
     match entry {
         Entry::Header => write_piece(out, at, b"arbac\t1"),
         Entry::Role(name) => named_line(out, at, b"role", name),
         Entry::User(name, clearance) => user_line(out, at, name, clearance),
         Entry::Has(user, role) => {
-            let holder = name_at(&ledger[USERS..], c.users, user);
-            let held = name_at(ledger, c.roles, role);
+            let holder = users.at(user);
+            let held = roles.at(role);
             pair_line(out, at, b"has", holder, held)
         }
-        Entry::Assign(rule) => assign_line(out, at, ledger, c.roles, rule),
+        Entry::Assign(rule) => assign_line(out, at, roles, rule),
         Entry::Revoke(rule) => {
-            let admin = name_at(ledger, c.roles, rule.admin);
-            let target = name_at(ledger, c.roles, rule.target);
+            let admin = roles.at(rule.admin);
+            let target = roles.at(rule.target);
             pair_line(out, at, b"revoke", admin, target)
         }
-        Entry::Goal(goal) => goal_line(out, at, ledger, c.roles, goal),
+        Entry::Goal(goal) => goal_line(out, at, roles, goal),
         Entry::End => write_piece(out, at, b"end"),
     }
 }

@@ -9,6 +9,7 @@ ghost use Rattle.sheets.specs.Words.{said_in};
 ghost use Rattle.judging.specs.Verdict.{rules_said, rules_verdict, typing_verdict, part_number, pinned_names};
 ghost use Rattle.judging.specs.First.{ByTests};
 
+use ledgers::{ASSIGN_RULES, GOALS, PEOPLE, REVOKE_RULES, row_at};
 use lines::Counts;
 use model::Typing;
 use sheets::lay_out;
@@ -58,10 +59,10 @@ fn rules_verdict(ledger: &[u64], c: Counts, sheet: &[u64; 1026]) -> Result<(), F
     ensures { result ≡ rules_said (policy_of (ledger_says ledger.now c)) (said_in sheet.now) }
 {
     first_failing(Part::Assign, c.assigns, |place| {
-        rules::assign_passes(sheet, ledgers::assign(ledger, place))
+        rules::assign_passes(sheet, row_at(ledger, ASSIGN_RULES, place))
     })?;
     first_failing(Part::Revoke, c.revokes, |place| {
-        rules::revoke_passes(sheet, ledgers::revoke(ledger, place))
+        rules::revoke_passes(sheet, row_at(ledger, REVOKE_RULES, place))
     })
 }
 
@@ -83,11 +84,11 @@ pub fn judge_typing(ledger: &[u64], c: Counts, t: Typing) -> Result<(), Failure>
     let mut sheet = [0u64; 1026];
     lay_out(t, c.roles, &mut sheet);
     first_failing(Part::Holdings, c.users, |place| {
-        rules::person_passes(&sheet, ledgers::person(ledger, place))
+        rules::person_passes(&sheet, row_at(ledger, PEOPLE, place))
     })?;
     rules_verdict(ledger, c, &sheet)?;
     first_failing(Part::Goal, c.goals, |place| {
-        rules::goal_passes(&sheet, ledgers::goal(ledger, place))
+        rules::goal_passes(&sheet, row_at(ledger, GOALS, place))
     })
 }
 

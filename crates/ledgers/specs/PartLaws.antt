@@ -8,7 +8,7 @@ use Rattle.std.proofs.lemmas.Bool.{eqb-false}
 use Rattle.std.proofs.lemmas.List.Edits.{sets}
 use Rattle.std.proofs.Math.Decide.{dec_lt}
 use native.Mathlib.Omega.{arith}
-use Rattle.ledgers.specs.Parts.{Part, row_at, stored, rows_from, rows_in}
+use Rattle.ledgers.specs.Parts.{Rows, Part, row_at, stored, rows_from, rows_in}
 
 -- ---- a run of stores
 
@@ -31,16 +31,16 @@ sets_at words at (value ∷ row) (suc j) is inside fits =
 
 -- ---- parts
 
--- A part's rows are as wide as it says, a row looks at its own words alone, and a row that is stored says what it was made of.
-pub record Faithful {A : Type 0} (part : Part A) : Type 0 where
-  pub wide : (a : A) → length (part.row a) ≡ part.width
-  pub alone : (one two : List ℕ) (at : ℕ) → ((k : ℕ) → at ≤ k → k < at + part.width → get_or one k 0 ≡ get_or two k 0) → part.says one at ≡ part.says two at
-  pub back : (words : List ℕ) (at : ℕ) (a : A) → at + part.width ≤ length words → part.says (sets words at (part.row a)) at ≡ a
+-- Rows are as wide as they say, a row looks at its own words alone, and a row that is stored says what it was made of.
+pub record Faithful {A : Type 0} (rows : Rows A) : Type 0 where
+  pub wide : (a : A) → length (rows.row a) ≡ rows.width
+  pub alone : (one two : List ℕ) (at : ℕ) → ((k : ℕ) → at ≤ k → k < at + rows.width → get_or one k 0 ≡ get_or two k 0) → rows.says one at ≡ rows.says two at
+  pub back : (words : List ℕ) (at : ℕ) (a : A) → at + rows.width ≤ length words → rows.says (sets words at (rows.row a)) at ≡ a
 
 module _ {A : Type 0} (part : Part A) where
   -- rows do not overlap: one below a place ends where the place's row begins, or before
-  row_after : (other place : ℕ) → other < place → part.width * other + part.width ≤ part.width * place
-  row_after other place below = omega (arith, mul-suc part.width other, mul-le-mul_left part.width below)
+  row_after : (other place : ℕ) → other < place → part.rows.width * other + part.rows.width ≤ part.rows.width * place
+  row_after other place below = omega (arith, mul-suc part.rows.width other, mul-le-mul_left part.rows.width below)
 
   from_length : (words : List ℕ) (place count : ℕ) → length (rows_from part words place count) ≡ count
   unfolding rows_from
@@ -79,23 +79,23 @@ module _ {A : Type 0} (part : Part A) where
       go place zero each = refl
       go place (suc left) each = ap₂ ◌∷◌ (each place (omega arith) (omega arith)) (go (suc place) left (λ k low high. each k (omega arith) (omega arith)))
 
-  module _ (faithful : Faithful part) where
+  module _ (faithful : Faithful part.rows) where
     -- a run of stores beside the part changes none of its rows
-    pub rows_beside : (words : List ℕ) (at : ℕ) (row : List ℕ) (count : ℕ) → (at + length row ≤ part.from) ⊎ (part.from + part.width * count ≤ at) → rows_in part (sets words at row) count ≡ rows_in part words count
+    pub rows_beside : (words : List ℕ) (at : ℕ) (row : List ℕ) (count : ℕ) → (at + length row ≤ part.from) ⊎ (part.from + part.rows.width * count ≤ at) → rows_in part (sets words at row) count ≡ rows_in part words count
     rows_beside words at row count apart =
-        rows_same (sets words at row) words count (λ k inside. faithful.alone (sets words at row) words (part.from + part.width * k) (λ i low high. sets_beside words at row i (⊎_elim (λ before. inr (omega arith)) (λ past. inl (omega (arith, row_after k count inside))) apart)))
+        rows_same (sets words at row) words count (λ k inside. faithful.alone (sets words at row) words (part.from + part.rows.width * k) (λ i low high. sets_beside words at row i (⊎_elim (λ before. inr (omega arith)) (λ past. inl (omega (arith, row_after k count inside))) apart)))
 
     module _ (words : List ℕ) (place : ℕ) (a : A) where
       row_other : (k : ℕ) → k ≢ place → row_at part (stored part words place a) k ≡ row_at part words k
-      row_other k differs = faithful.alone (stored part words place a) words (part.from + part.width * k) (λ i low high. sets_beside words (part.from + part.width * place) (part.row a) i (side i low high (dec_lt k place)))
+      row_other k differs = faithful.alone (stored part words place a) words (part.from + part.rows.width * k) (λ i low high. sets_beside words (part.from + part.rows.width * place) (part.rows.row a) i (side i low high (dec_lt k place)))
         where
-          side : (i : ℕ) → part.from + part.width * k ≤ i → i < part.from + part.width * k + part.width → Dec (k < place) → (i < part.from + part.width * place) ⊎ (part.from + part.width * place + length (part.row a) ≤ i)
+          side : (i : ℕ) → part.from + part.rows.width * k ≤ i → i < part.from + part.rows.width * k + part.rows.width → Dec (k < place) → (i < part.from + part.rows.width * place) ⊎ (part.from + part.rows.width * place + length (part.rows.row a) ≤ i)
           side i low high (yes below) = inl (omega (arith, row_after k place below))
           side i low high (no above) = inr (omega (arith, row_after place k (omega arith), faithful.wide a))
 
-      module _ (fits : part.from + part.width * place + part.width ≤ length words) where
+      module _ (fits : part.from + part.rows.width * place + part.rows.width ≤ length words) where
         row_own : row_at part (stored part words place a) place ≡ a
-        row_own = faithful.back words (part.from + part.width * place) a fits
+        row_own = faithful.back words (part.from + part.rows.width * place) a fits
 
         -- a row stored in the place of another says what it was made of, and the other rows stay
         pub rows_changed : (count : ℕ) → place < count → rows_in part (stored part words place a) count ≡ set (rows_in part words count) place a

@@ -1,16 +1,16 @@
 // One line of a policy: its fields, what is wrong with it, and the entry that it makes.
 #![tactic(auto)]
 
-ghost use Rattle.std.specs.Prelude.{◌≡◌, ◌*◌, ◌≤◌, length, List};
+ghost use Rattle.std.specs.Prelude.{◌≡◌, ◌≤◌, length, List};
 ghost use Rattle.tables.specs.declared.Name.{Name};
-ghost use Rattle.tables.specs.Names.{rows};
+ghost use Rattle.tables.specs.Listed.{rows_of};
 ghost use Rattle.lines.specs.Lines.{Line, one_field, two_fields, three_fields, in_order, judged, policy_line};
 ghost use Rattle.lines.specs.LineLaws.{turned};
 
 use fields::{both, read_name, read_set};
 use model::{Assign, Revoke};
 use roles::RoleSet;
-use tables::Name;
+use tables::{Name, Names};
 use walking::{Fault, pass};
 
 // The kinds of lines in the order in which they come, with room between them.
@@ -85,12 +85,11 @@ fn header_line(edition: &[u8], c: Counts) -> Result<Entry, Fault>
 
 // A role line: a new role name.
 #[tactic(auto, using(fields::specs::FieldLaws::new_test), unfolding(crate::specs::Lines::judged, crate::specs::Lines::asked, crate::specs::Lines::comes_to))]
-fn role_line(name: &[u8], roles: &[u64], c: Counts) -> Result<Entry, Fault>
-    requires { 4 * c.roles ≤ length roles.now }
-    ensures { (users : List Name) → result ≡ judged c (rows c.roles roles.now) users (Line.role name.now) }
+fn role_line(name: &[u8], roles: Names, c: Counts) -> Result<Entry, Fault>
+    ensures { (users : List Name) → result ≡ judged c (rows_of roles.entry) users (Line.role name.now) }
 {
     let packed = tables::pack(name);
-    let new = tables::find(roles, c.roles, packed).is_none();
+    let new = roles.find(packed).is_none();
     let formed = in_order(c.stage, ROLE) & text::is_name(name) & new;
     pass(formed, Fault::Malformed)?;
     pass(c.roles < 128, Fault::AboveLimit)?;
@@ -99,12 +98,11 @@ fn role_line(name: &[u8], roles: &[u64], c: Counts) -> Result<Entry, Fault>
 
 // A user line: a new user name and a clearance.
 #[tactic(auto, using(fields::specs::FieldLaws::new_test), unfolding(crate::specs::Lines::judged, crate::specs::Lines::asked, crate::specs::Lines::comes_to))]
-fn user_line(name: &[u8], clearance: &[u8], users: &[u64], c: Counts) -> Result<Entry, Fault>
-    requires { 4 * c.users ≤ length users.now }
-    ensures { (roles : List Name) → result ≡ judged c roles (rows c.users users.now) (Line.user name.now clearance.now) }
+fn user_line(name: &[u8], clearance: &[u8], users: Names, c: Counts) -> Result<Entry, Fault>
+    ensures { (roles : List Name) → result ≡ judged c roles (rows_of users.entry) (Line.user name.now clearance.now) }
 {
     let packed = tables::pack(name);
-    let new = tables::find(users, c.users, packed).is_none();
+    let new = users.find(packed).is_none();
     let formed = in_order(c.stage, USER) & text::is_name(name) & text::is_label(clearance) & new;
     pass(formed, Fault::Malformed)?;
     pass(c.users < 64, Fault::AboveLimit)?;
@@ -112,33 +110,19 @@ fn user_line(name: &[u8], clearance: &[u8], users: &[u64], c: Counts) -> Result<
 }
 
 // A has line: a declared user and a declared role.
-fn has_line(
-    user: &[u8],
-    role: &[u8],
-    roles: &[u64],
-    users: &[u64],
-    c: Counts,
-) -> Result<Entry, Fault>
-    requires { (4 * c.roles ≤ length roles.now) × (4 * c.users ≤ length users.now) }
-    ensures { result ≡ judged c (rows c.roles roles.now) (rows c.users users.now) (Line.has user.now role.now) }
+fn has_line(user: &[u8], role: &[u8], roles: Names, users: Names, c: Counts) -> Result<Entry, Fault>
+    ensures { result ≡ judged c (rows_of roles.entry) (rows_of users.entry) (Line.has user.now role.now) }
 {
-    let pair = both(
-        read_name(user, users, c.users),
-        read_name(role, roles, c.roles),
-    );
+    let pair = both(read_name(user, users), read_name(role, roles));
     let (holder, held) = in_turn(in_order(c.stage, HAS), true, pair)?;
     Ok(Entry::Has(holder, held))
 }
 
 // A revoke line: two declared roles.
-fn revoke_line(admin: &[u8], target: &[u8], roles: &[u64], c: Counts) -> Result<Entry, Fault>
-    requires { 4 * c.roles ≤ length roles.now }
-    ensures { (users : List Name) → result ≡ judged c (rows c.roles roles.now) users (Line.revoke admin.now target.now) }
+fn revoke_line(admin: &[u8], target: &[u8], roles: Names, c: Counts) -> Result<Entry, Fault>
+    ensures { (users : List Name) → result ≡ judged c (rows_of roles.entry) users (Line.revoke admin.now target.now) }
 {
-    let names = both(
-        read_name(admin, roles, c.roles),
-        read_name(target, roles, c.roles),
-    );
+    let names = both(read_name(admin, roles), read_name(target, roles));
     let (admin, target) = in_turn(in_order(c.stage, REVOKE), c.revokes < 256, names)?;
     Ok(Entry::Revoke(Revoke { admin, target }))
 }
@@ -149,20 +133,14 @@ fn assign_line(
     positive: &[u8],
     negative: &[u8],
     target: &[u8],
-    roles: &[u64],
+    roles: Names,
     c: Counts,
 ) -> Result<Entry, Fault>
-    requires { (length positive.now ≤ 32768) × (length negative.now ≤ 32768) × (4 * c.roles ≤ length roles.now) × (c.roles ≤ 128) }
-    ensures { (users : List Name) → result ≡ judged c (rows c.roles roles.now) users (Line.assign admin.now positive.now negative.now target.now) }
+    requires { (length positive.now ≤ 32768) × (length negative.now ≤ 32768) × (roles.count ≤ 128) }
+    ensures { (users : List Name) → result ≡ judged c (rows_of roles.entry) users (Line.assign admin.now positive.now negative.now target.now) }
 {
-    let first = both(
-        read_name(admin, roles, c.roles),
-        read_set(positive, roles, c.roles),
-    );
-    let second = both(
-        read_set(negative, roles, c.roles),
-        read_name(target, roles, c.roles),
-    );
+    let first = both(read_name(admin, roles), read_set(positive, roles));
+    let second = both(read_set(negative, roles), read_name(target, roles));
     let all = both(first, second);
     let ((admin, positive), (negative, target)) = in_turn(
         in_order(c.stage, ASSIGN),
@@ -178,11 +156,11 @@ fn assign_line(
 }
 
 // A goal line: a set of declared roles that is not empty.
-fn goal_line(set: &[u8], roles: &[u64], c: Counts) -> Result<Entry, Fault>
-    requires { (length set.now ≤ 32768) × (4 * c.roles ≤ length roles.now) × (c.roles ≤ 128) }
-    ensures { (users : List Name) → result ≡ judged c (rows c.roles roles.now) users (Line.goal set.now) }
+fn goal_line(set: &[u8], roles: Names, c: Counts) -> Result<Entry, Fault>
+    requires { (length set.now ≤ 32768) × (roles.count ≤ 128) }
+    ensures { (users : List Name) → result ≡ judged c (rows_of roles.entry) users (Line.goal set.now) }
 {
-    let held = read_set(set, roles, c.roles);
+    let held = read_set(set, roles);
     let ordered = in_order(c.stage, GOAL) & !text::same(set, b"-");
     let goal = in_turn(ordered, c.goals < 32, held)?;
     Ok(Entry::Goal(goal))
@@ -200,9 +178,9 @@ fn one_field(word: &[u8], c: Counts) -> Result<Entry, Fault>
 
 // A line of two fields: a role, a goal or the header.
 #[tactic(auto, using(crate::specs::LineLaws::other_judged), unfolding(crate::specs::Lines::two_fields))]
-fn two_fields(word: &[u8], field: &[u8], roles: &[u64], c: Counts) -> Result<Entry, Fault>
-    requires { (length field.now ≤ 32768) × (4 * c.roles ≤ length roles.now) × (c.roles ≤ 128) }
-    ensures { (users : List Name) → result ≡ judged c (rows c.roles roles.now) users (two_fields word.now field.now) }
+fn two_fields(word: &[u8], field: &[u8], roles: Names, c: Counts) -> Result<Entry, Fault>
+    requires { (length field.now ≤ 32768) × (roles.count ≤ 128) }
+    ensures { (users : List Name) → result ≡ judged c (rows_of roles.entry) users (two_fields word.now field.now) }
 {
     if text::same(word, b"role") {
         return role_line(field, roles, c);
@@ -222,12 +200,11 @@ fn three_fields(
     word: &[u8],
     first: &[u8],
     second: &[u8],
-    roles: &[u64],
-    users: &[u64],
+    roles: Names,
+    users: Names,
     c: Counts,
 ) -> Result<Entry, Fault>
-    requires { (4 * c.roles ≤ length roles.now) × (4 * c.users ≤ length users.now) }
-    ensures { result ≡ judged c (rows c.roles roles.now) (rows c.users users.now) (three_fields word.now first.now second.now) }
+    ensures { result ≡ judged c (rows_of roles.entry) (rows_of users.entry) (three_fields word.now first.now second.now) }
 {
     if text::same(word, b"has") {
         return has_line(first, second, roles, users, c);
@@ -242,14 +219,9 @@ fn three_fields(
 }
 
 // One line of a policy, without its LF, judged on its own bytes and on the names and counts of the lines above.
-pub fn read_line<'a>(
-    line: &[u8],
-    roles: &'a [u64],
-    users: &'a [u64],
-    c: Counts,
-) -> Result<Entry, Fault>
-    requires { (length line.now ≤ 32768) × (4 * c.roles ≤ length roles.now) × (4 * c.users ≤ length users.now) × (c.roles ≤ 128) }
-    ensures { result ≡ policy_line c (rows c.roles roles.now) (rows c.users users.now) line.now }
+pub fn read_line(line: &[u8], roles: Names, users: Names, c: Counts) -> Result<Entry, Fault>
+    requires { (length line.now ≤ 32768) × (roles.count ≤ 128) }
+    ensures { result ≡ policy_line c (rows_of roles.entry) (rows_of users.entry) line.now }
 {
     let end = line.len();
     let a = text::seek(line, 0, b'\t');

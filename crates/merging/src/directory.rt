@@ -6,7 +6,7 @@ ghost use Rattle.ledgers.specs.Ledger.{ledger_words, people};
 ghost use Rattle.reading.specs.Ledger.{Limited, ledger_says};
 ghost use Rattle.merging.specs.Directory.{same_person, same_directory};
 
-use ledgers::{USERS, person};
+use ledgers::{PEOPLE, USERS, row_at};
 use lines::Counts;
 
 // Whether so many first people of two ledgers are the same, one by one.
@@ -15,7 +15,7 @@ fn same_people(one: &[u64], two: &[u64], count: usize) -> bool
     ensures { result ≡ pointwise same_person (rows_in people one.now count) (rows_in people two.now count) }
 {
     for user in 0..count {
-        if person(one, user) != person(two, user) {
+        if row_at(one, PEOPLE, user) != row_at(two, PEOPLE, user) {
             return false;
         }
     }

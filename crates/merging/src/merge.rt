@@ -1,6 +1,6 @@
 // The merge of two policies with a typing each: the texts read, 17, the four judgings, 19, and the sum written, or 18.
-ghost use Rattle.std.specs.Prelude.{◌≡◌, ◌*◌, ◌≤◌, length};
-ghost use Rattle.tables.specs.Names.{rows};
+ghost use Rattle.std.specs.Prelude.{◌≡◌, ◌≤◌, length};
+ghost use Rattle.tables.specs.Listed.{rows_of};
 ghost use Rattle.ledgers.specs.Ledger.{ledger_words};
 ghost use Rattle.ledgers.specs.Memory.{no_memory, in_memory, Spared};
 ghost use Rattle.reading.specs.Policy.{Said, counts_of};
@@ -19,6 +19,7 @@ use model::Typing;
 use reading::read_policy;
 use summing::fitting::write_fitting;
 use summing::sum_of;
+use tables::Names;
 use typings::read_typing;
 use walking::Refusal;
 
@@ -34,11 +35,10 @@ fn of_none(number: u64) -> MergeAnswer
 
 // The sum of accepted typings over the role names, written with the joint counts: 19 where one of them is above its limit, 18
 // where the text does not fit.
-fn write_joint(names: &[u64], p: Counts, q: Counts, t: Typing, out: &mut [u8]) -> MergeAnswer
-    requires { (4 * p.roles ≤ length names.now) × Limited p × Limited q }
-    ensures { (s s' : Said) → p ≡ counts_of s → q ≡ counts_of s' → rows p.roles names.now ≡ s.roles → Meets (merge_counted (length out.old) s s' t) out.old result out.new }
+fn write_joint(roles: Names, p: Counts, q: Counts, t: Typing, out: &mut [u8]) -> MergeAnswer
+    requires { (roles.count ≤ 128) × Limited p × Limited q }
+    ensures { (s s' : Said) → p ≡ counts_of s → q ≡ counts_of s' → rows_of roles.entry ≡ s.roles → Meets (merge_counted (length out.old) s s' t) out.old result out.new }
 {
-    let roles = p.roles;
     let assigns = p.assigns + q.assigns;
     let revokes = p.revokes + q.revokes;
     let goals = p.goals + q.goals;
@@ -51,9 +51,9 @@ fn write_joint(names: &[u64], p: Counts, q: Counts, t: Typing, out: &mut [u8]) -
     if 32 < goals {
         return of_none(19);
     }
-    match write_fitting(out, names, roles, t) {
+    match write_fitting(out, roles, t) {
         Some(length) => {
-            MergeAnswer::Merged(roles, assigns, revokes, goals, pinned(t, roles), length)
+            MergeAnswer::Merged(p.roles, assigns, revokes, goals, pinned(t, p.roles), length)
         }
         None => of_none(18),
     }
@@ -87,7 +87,11 @@ fn merge_read(
     if let Err(failure) = judge_rules(one, p, u) {
         return MergeAnswer::Unproved(4, failure);
     }
-    write_joint(one, p, q, sum_of(t, u), out)
+    let roles = Names {
+        words: one,
+        count: p.roles,
+    };
+    write_joint(roles, p, q, sum_of(t, u), out)
 }
 
 // The answer once the policies are read into the two parts of the memory, and typing one: typing two is read.
@@ -103,7 +107,11 @@ fn merge_typed(
     ensures { Meets (merge_typed (length out.old) (ledger_says (ledger_one memory.now) p) t (ledger_says (ledger_two memory.now) q) typing_2.now) out.old result out.new }
 {
     let two = &memory[WORDS..];
-    let u = match read_typing(typing_2, two, q.roles) {
+    let roles = Names {
+        words: two,
+        count: q.roles,
+    };
+    let u = match read_typing(typing_2, roles) {
         Ok(typing) => typing,
         Err(refusal) => return MergeAnswer::Refused(4, refusal),
     };
@@ -127,7 +135,11 @@ fn merge_with(
         Ok(counts) => counts,
         Err(refusal) => return MergeAnswer::Refused(1, refusal),
     };
-    let t = match read_typing(typing_1, &memory[..WORDS], p.roles) {
+    let roles = Names {
+        words: &memory[..WORDS],
+        count: p.roles,
+    };
+    let t = match read_typing(typing_1, roles) {
         Ok(typing) => typing,
         Err(refusal) => return MergeAnswer::Refused(2, refusal),
     };

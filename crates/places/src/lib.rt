@@ -11,6 +11,7 @@ ghost use Rattle.places.specs.Answered.{refusal_in};
 use answering::{Answer, TOO_FEW_WORDS, check, check_in};
 use ledgers::WORDS;
 use reading::read_policy;
+use tables::Names;
 use typings::read_typing;
 use walking::Refusal;
 
@@ -67,7 +68,11 @@ fn read_both(policy: &[u8], typing: &[u8], ledger: &mut [u64]) -> Result<(), Ref
     ensures { result_err result ≡ typing_refusal_of policy.now typing.now }
 {
     let c = read_policy(policy, ledger)?;
-    read_typing(typing, ledger, c.roles)?;
+    let roles = Names {
+        words: ledger,
+        count: c.roles,
+    };
+    read_typing(typing, roles)?;
     Ok(())
 }
 

@@ -55,11 +55,11 @@ module _ (words : List ℕ) (c : Counts) (room : ledger_words ≤ length words) 
       λ i. record {
         stage = role_kind;
         roles = rows_more role_names roles_faithful words c.roles name (omega arith) i;
-        users = users_stay words c l at (role_names.row name) (inl (omega arith)) i;
-        holdings = people_stay words c l at (role_names.row name) (inl (omega arith)) i;
-        assigns = assigns_stay words c l at (role_names.row name) (inl (omega arith)) i;
-        revokes = revokes_stay words c l at (role_names.row name) (inl (omega arith)) i;
-        goals = goals_stay words c l at (role_names.row name) (omega arith) i;
+        users = users_stay words c l at (role_names.rows.row name) (inl (omega arith)) i;
+        holdings = people_stay words c l at (role_names.rows.row name) (inl (omega arith)) i;
+        assigns = assigns_stay words c l at (role_names.rows.row name) (inl (omega arith)) i;
+        revokes = revokes_stay words c l at (role_names.rows.row name) (inl (omega arith)) i;
+        goals = goals_stay words c l at (role_names.rows.row name) (omega arith) i;
       }
 
   pub user_entered : (name : Name) (clearance : Bool) → c.users < 64
@@ -71,15 +71,15 @@ module _ (words : List ℕ) (c : Counts) (room : ledger_words ≤ length words) 
       let there = 768 + 3 * c.users in
       let new : Person = newcomer clearance in
       let named : List ℕ = stored user_names words c.users name in
-      let long : length named ≡ length words = length-sets words at (user_names.row name) in
+      let long : length named ≡ length words = length-sets words at (user_names.rows.row name) in
       λ i. record {
         stage = user_kind;
-        roles = (roles_stay named c l there (people.row new) (omega arith) ∙ roles_stay words c l at (user_names.row name) (omega arith)) i;
-        users = (rows_beside user_names users_faithful named there (people.row new) (c.users + 1) (inr (omega arith)) ∙ rows_more user_names users_faithful words c.users name (omega arith)) i;
-        holdings = (rows_more people people_faithful named c.users new (omega arith) ∙ ap (λ (σ : List Person). σ ++ (new ∷ [])) (people_stay words c l at (user_names.row name) (inl (omega arith)))) i;
-        assigns = (assigns_stay named c l there (people.row new) (inl (omega arith)) ∙ assigns_stay words c l at (user_names.row name) (inl (omega arith))) i;
-        revokes = (revokes_stay named c l there (people.row new) (inl (omega arith)) ∙ revokes_stay words c l at (user_names.row name) (inl (omega arith))) i;
-        goals = (goals_stay named c l there (people.row new) (omega arith) ∙ goals_stay words c l at (user_names.row name) (omega arith)) i;
+        roles = (roles_stay named c l there (people.rows.row new) (omega arith) ∙ roles_stay words c l at (user_names.rows.row name) (omega arith)) i;
+        users = (rows_beside user_names users_faithful named there (people.rows.row new) (c.users + 1) (inr (omega arith)) ∙ rows_more user_names users_faithful words c.users name (omega arith)) i;
+        holdings = (rows_more people people_faithful named c.users new (omega arith) ∙ ap (λ (σ : List Person). σ ++ (new ∷ [])) (people_stay words c l at (user_names.rows.row name) (inl (omega arith)))) i;
+        assigns = (assigns_stay named c l there (people.rows.row new) (inl (omega arith)) ∙ assigns_stay words c l at (user_names.rows.row name) (inl (omega arith))) i;
+        revokes = (revokes_stay named c l there (people.rows.row new) (inl (omega arith)) ∙ revokes_stay words c l at (user_names.rows.row name) (inl (omega arith))) i;
+        goals = (goals_stay named c l there (people.rows.row new) (omega arith) ∙ goals_stay words c l at (user_names.rows.row name) (omega arith)) i;
       }
 
   pub has_entered : (holder held : ℕ) → holder < c.users
@@ -90,12 +90,12 @@ module _ (words : List ℕ) (c : Counts) (room : ledger_words ≤ length words) 
       let new : Person = with_role (row_at people words holder) held in
       λ i. record {
         stage = has_kind;
-        roles = roles_stay words c l at (people.row new) (omega arith) i;
-        users = users_stay words c l at (people.row new) (inr (omega arith)) i;
+        roles = roles_stay words c l at (people.rows.row new) (omega arith) i;
+        users = users_stay words c l at (people.rows.row new) (inr (omega arith)) i;
         holdings = (rows_changed people people_faithful words holder new (omega (arith, l.users)) c.users listed ∙ ap (λ (p : Person). set (rows_in people words c.users) holder (with_role p held)) (sym (rows_at people words c.users holder nobody listed))) i;
-        assigns = assigns_stay words c l at (people.row new) (inl (omega (arith, l.users))) i;
-        revokes = revokes_stay words c l at (people.row new) (inl (omega (arith, l.users))) i;
-        goals = goals_stay words c l at (people.row new) (omega (arith, l.users)) i;
+        assigns = assigns_stay words c l at (people.rows.row new) (inl (omega (arith, l.users))) i;
+        revokes = revokes_stay words c l at (people.rows.row new) (inl (omega (arith, l.users))) i;
+        goals = goals_stay words c l at (people.rows.row new) (omega (arith, l.users)) i;
       }
 
   pub assign_entered : (rule : Assign) → c.assigns < 256
@@ -105,12 +105,12 @@ module _ (words : List ℕ) (c : Counts) (room : ledger_words ≤ length words) 
       let at = 960 + 6 * c.assigns in
       λ i. record {
         stage = assign_kind;
-        roles = roles_stay words c l at (assign_rules.row rule) (omega arith) i;
-        users = users_stay words c l at (assign_rules.row rule) (inr (omega arith)) i;
-        holdings = people_stay words c l at (assign_rules.row rule) (inr (omega arith)) i;
+        roles = roles_stay words c l at (assign_rules.rows.row rule) (omega arith) i;
+        users = users_stay words c l at (assign_rules.rows.row rule) (inr (omega arith)) i;
+        holdings = people_stay words c l at (assign_rules.rows.row rule) (inr (omega arith)) i;
         assigns = rows_more assign_rules assigns_faithful words c.assigns rule (omega arith) i;
-        revokes = revokes_stay words c l at (assign_rules.row rule) (inl (omega arith)) i;
-        goals = goals_stay words c l at (assign_rules.row rule) (omega arith) i;
+        revokes = revokes_stay words c l at (assign_rules.rows.row rule) (inl (omega arith)) i;
+        goals = goals_stay words c l at (assign_rules.rows.row rule) (omega arith) i;
       }
 
   pub revoke_entered : (rule : Revoke) → c.revokes < 256
@@ -120,12 +120,12 @@ module _ (words : List ℕ) (c : Counts) (room : ledger_words ≤ length words) 
       let at = 2496 + 2 * c.revokes in
       λ i. record {
         stage = revoke_kind;
-        roles = roles_stay words c l at (revoke_rules.row rule) (omega arith) i;
-        users = users_stay words c l at (revoke_rules.row rule) (inr (omega arith)) i;
-        holdings = people_stay words c l at (revoke_rules.row rule) (inr (omega arith)) i;
-        assigns = assigns_stay words c l at (revoke_rules.row rule) (inr (omega arith)) i;
+        roles = roles_stay words c l at (revoke_rules.rows.row rule) (omega arith) i;
+        users = users_stay words c l at (revoke_rules.rows.row rule) (inr (omega arith)) i;
+        holdings = people_stay words c l at (revoke_rules.rows.row rule) (inr (omega arith)) i;
+        assigns = assigns_stay words c l at (revoke_rules.rows.row rule) (inr (omega arith)) i;
         revokes = rows_more revoke_rules revokes_faithful words c.revokes rule (omega arith) i;
-        goals = goals_stay words c l at (revoke_rules.row rule) (omega arith) i;
+        goals = goals_stay words c l at (revoke_rules.rows.row rule) (omega arith) i;
       }
 
   pub goal_entered : (goal : RoleSet) → c.goals < 32
@@ -135,10 +135,10 @@ module _ (words : List ℕ) (c : Counts) (room : ledger_words ≤ length words) 
       let at = 3008 + 2 * c.goals in
       λ i. record {
         stage = goal_kind;
-        roles = roles_stay words c l at (goal_sets.row goal) (omega arith) i;
-        users = users_stay words c l at (goal_sets.row goal) (inr (omega arith)) i;
-        holdings = people_stay words c l at (goal_sets.row goal) (inr (omega arith)) i;
-        assigns = assigns_stay words c l at (goal_sets.row goal) (inr (omega arith)) i;
-        revokes = revokes_stay words c l at (goal_sets.row goal) (inr (omega arith)) i;
+        roles = roles_stay words c l at (goal_sets.rows.row goal) (omega arith) i;
+        users = users_stay words c l at (goal_sets.rows.row goal) (inr (omega arith)) i;
+        holdings = people_stay words c l at (goal_sets.rows.row goal) (inr (omega arith)) i;
+        assigns = assigns_stay words c l at (goal_sets.rows.row goal) (inr (omega arith)) i;
+        revokes = revokes_stay words c l at (goal_sets.rows.row goal) (inr (omega arith)) i;
         goals = rows_more goal_sets goals_faithful words c.goals goal (omega arith) i;
       }

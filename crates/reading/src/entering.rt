@@ -6,7 +6,9 @@ ghost use Rattle.lines.specs.LineLaws.{Fitting};
 ghost use Rattle.reading.specs.Ledger.{Limited, ledger_says};
 ghost use Rattle.reading.specs.Policy.{is_new, added};
 
-use ledgers::{store_assign, store_goal, store_person, store_revoke, store_role, store_user};
+use ledgers::{
+    ASSIGN_RULES, GOALS, PEOPLE, REVOKE_RULES, ROLE_NAMES, USER_NAMES, row_at, store_row,
+};
 use lines::{ASSIGN, Counts, END, Entry, GOAL, HAS, HEADER, REVOKE, ROLE, USER};
 use model::Person;
 
@@ -17,7 +19,7 @@ pub fn is_new(ledger: &[u64], c: Counts, entry: Entry) -> bool
 {
     match entry {
         Entry::Has(user, role) => {
-            let held = ledgers::person(ledger, user).roles;
+            let held = row_at(ledger, PEOPLE, user).roles;
             !held.has(role)
         }
         _ => true,
@@ -35,34 +37,34 @@ pub fn enter(ledger: &mut [u64], c: Counts, entry: Entry) -> Counts
             d.stage = HEADER;
         }
         Entry::Role(name) => {
-            store_role(ledger, c.roles, name);
+            store_row(ledger, ROLE_NAMES, c.roles, name);
             d.roles += 1;
             d.stage = ROLE;
         }
         Entry::User(name, clearance) => {
             let user = Person::newcomer(clearance);
-            store_user(ledger, c.users, name);
-            store_person(ledger, c.users, user);
+            store_row(ledger, USER_NAMES, c.users, name);
+            store_row(ledger, PEOPLE, c.users, user);
             d.users += 1;
             d.stage = USER;
         }
         Entry::Has(user, role) => {
-            let holder = ledgers::person(ledger, user);
-            store_person(ledger, user, holder.with_role(role));
+            let holder = row_at(ledger, PEOPLE, user);
+            store_row(ledger, PEOPLE, user, holder.with_role(role));
             d.stage = HAS;
         }
         Entry::Assign(rule) => {
-            store_assign(ledger, c.assigns, rule);
+            store_row(ledger, ASSIGN_RULES, c.assigns, rule);
             d.assigns += 1;
             d.stage = ASSIGN;
         }
         Entry::Revoke(rule) => {
-            store_revoke(ledger, c.revokes, rule);
+            store_row(ledger, REVOKE_RULES, c.revokes, rule);
             d.revokes += 1;
             d.stage = REVOKE;
         }
         Entry::Goal(goal) => {
-            store_goal(ledger, c.goals, goal);
+            store_row(ledger, GOALS, c.goals, goal);
             d.goals += 1;
             d.stage = GOAL;
         }

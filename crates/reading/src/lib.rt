@@ -10,6 +10,7 @@ ghost use Rattle.reading.specs.Read.{ReadInto};
 
 use crate::entering::{enter, is_new};
 use lines::{Counts, Entry};
+use tables::Names;
 use walking::{Fault, Refusal, pass};
 
 pub mod entering;
@@ -33,13 +34,21 @@ fn read_line(line: &[u8], ledger: &[u64], c: Counts) -> Result<Entry, Fault>
     requires { (length line.now ≤ 32768) × (ledger_words ≤ length ledger.now) × Limited c }
     ensures { result ≡ line_answer (ledger_says ledger.now c) line.now }
 {
-    let entry = lines::read_line(line, ledger, &ledger[ledgers::USERS..], c)?;
+    let roles = Names {
+        words: ledger,
+        count: c.roles,
+    };
+    let users = Names {
+        words: &ledger[ledgers::USERS..],
+        count: c.users,
+    };
+    let entry = lines::read_line(line, roles, users, c)?;
     pass(is_new(ledger, c, entry), Fault::Malformed)?;
     Ok(entry)
 }
 
 // A policy text: the counts of the policy, or the refusal. The first bad line decides the refusal; a text without the header is
-// refused with no look at the rest.
+// refused with no look at the rest. It goes by the LFs, each found by `text::seek`, and a line is cut out of the middle and handed on.
 pub fn read_policy(text: &[u8], ledger: &mut [u64]) -> Result<Counts, Refusal>
     requires { ledger_words ≤ length ledger.old }
     ensures { ReadInto text.now result ledger.new }

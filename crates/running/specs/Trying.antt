@@ -131,15 +131,15 @@ person-stored : (words : List ℕ) → ledger_words ≤ length words → (c : Co
     → ledger_says (stored people words place p) c ≡ say_holdings (set (state_in words c) place p) (ledger_says words c)
 unfolding ledger_says
 person-stored words room c limited place p inside =
-    let at = people.from + people.width * place in
+    let at = people.from + people.rows.width * place in
     λ i. record {
       stage = c.stage;
-      roles = rows_beside role_names roles_faithful words at (people.row p) c.roles (inr (omega arith)) i;
-      users = rows_beside user_names users_faithful words at (people.row p) c.users (inr (omega arith)) i;
+      roles = rows_beside role_names roles_faithful words at (people.rows.row p) c.roles (inr (omega arith)) i;
+      users = rows_beside user_names users_faithful words at (people.rows.row p) c.users (inr (omega arith)) i;
       holdings = rows_changed people people_faithful words place p (omega arith) c.users inside i;
-      assigns = rows_beside assign_rules assigns_faithful words at (people.row p) c.assigns (inl (omega arith)) i;
-      revokes = rows_beside revoke_rules revokes_faithful words at (people.row p) c.revokes (inl (omega arith)) i;
-      goals = rows_beside goal_sets goals_faithful words at (people.row p) c.goals (inl (omega arith)) i;
+      assigns = rows_beside assign_rules assigns_faithful words at (people.rows.row p) c.assigns (inl (omega arith)) i;
+      revokes = rows_beside revoke_rules revokes_faithful words at (people.rows.row p) c.revokes (inl (omega arith)) i;
+      goals = rows_beside goal_sets goals_faithful words at (people.rows.row p) c.goals (inl (omega arith)) i;
     }
 
 module _ (words : List ℕ) (room : ledger_words ≤ length words) (c : Counts) (limited : Limited c) where

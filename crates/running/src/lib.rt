@@ -1,8 +1,8 @@
 // The verdict on a trace: every line is read, every step tried, and the last state judged.
 #![tactic(auto)]
 
-ghost use Rattle.std.specs.Prelude.{◌≡◌, ◌*◌, ◌≤◌, length};
-ghost use Rattle.tables.specs.Names.{rows};
+ghost use Rattle.std.specs.Prelude.{◌≡◌, ◌≤◌, length};
+ghost use Rattle.tables.specs.Listed.{rows_of};
 ghost use Rattle.ledgers.specs.Ledger.{ledger_words};
 ghost use Rattle.reading.specs.Ledger.{ledger_says, Limited};
 ghost use Rattle.running.specs.Verdict.{end_verdict, trace_verdict};
@@ -11,7 +11,7 @@ use ledgers::USERS;
 use lines::Counts;
 use state::{enter_new, first_bad, try_next};
 use steps::Found;
-use tables::Name;
+use tables::{Name, Names};
 use traces::read_line;
 use walking::{Fault, Refusal};
 
@@ -31,29 +31,23 @@ pub enum TraceVerdict {
 // The verdict on a trace that was read: the first step that is not one, where there is such, then who was found in the last state, by
 // the names that are known.
 #[tactic(auto, unfolding(crate::specs::Verdict::last_verdict, crate::specs::Verdict::end_verdict))]
-fn ending(
-    broken: Option<usize>,
-    steps: usize,
-    found: Option<Found>,
-    users: &[u64],
-    count: usize,
-) -> TraceVerdict
-    requires { 4 * count ≤ length users.now }
-    ensures { result ≡ end_verdict broken steps (rows count users.now) found }
+fn ending(broken: Option<usize>, steps: usize, found: Option<Found>, users: Names) -> TraceVerdict
+    ensures { result ≡ end_verdict broken steps (rows_of users.entry) found }
 {
     match (broken, found) {
         (Some(number), _) => TraceVerdict::Broken(number),
         (None, None) => TraceVerdict::Short(steps),
         (None, Some(found)) => {
             let user = found.user.saturating_sub(1);
-            let name = tables::name_at(users, count, user);
+            let name = users.at(user);
             TraceVerdict::Attacked(steps, user, name, found.goal)
         }
     }
 }
 
 // The verdict on a trace text over the policy of a ledger, whose people it changes step by step, and to whose users it adds who joins; or its
-// refusal. The first bad line decides the refusal; after the first step that is not one, lines are read on.
+// refusal. The first bad line decides the refusal; after the first step that is not one, lines are read on. It goes by the LFs, each found by
+// `text::seek`, and a line is cut out of the middle and handed on.
 pub fn run_trace(text: &[u8], ledger: &mut [u64], c: Counts) -> Result<TraceVerdict, Refusal>
     requires { (ledger_words ≤ length ledger.old) × Limited c }
     ensures { result ≡ trace_verdict (ledger_says ledger.old c) text.now }
@@ -87,10 +81,17 @@ pub fn run_trace(text: &[u8], ledger: &mut [u64], c: Counts) -> Result<TraceVerd
                 return Err(Fault::Malformed.in_evidence(number));
             }
             let found = first_bad(ledger, known.users, known.goals);
-            let users = &ledger[USERS..];
-            return Ok(ending(broken, steps, found, users, known.users));
+            let users = Names {
+                words: &ledger[USERS..],
+                count: known.users,
+            };
+            return Ok(ending(broken, steps, found, users));
         }
-        let answer = read_line(line, &ledger[USERS..], known);
+        let users = Names {
+            words: &ledger[USERS..],
+            count: known.users,
+        };
+        let answer = read_line(line, users, known);
         let Ok(read) = answer else {
             return Err(answer.unwrap_err().in_evidence(here));
         };

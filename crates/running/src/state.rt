@@ -9,6 +9,7 @@ ghost use Rattle.running.specs.Range.{InRange, Ranged, Room};
 ghost use Rattle.running.specs.Trying.{may_assign_in, assigned_in, may_revoke_in, revoked_in, may_leave_in, left_in, Stored, Tried, TriedNext};
 ghost use Rattle.running.specs.Joining.{with_new};
 
+use ledgers::{ASSIGN_RULES, GOALS, PEOPLE, REVOKE_RULES, row_at, store_row};
 use lines::{Counts, Entry};
 use model::Person;
 use reading::entering::enter;
@@ -21,9 +22,9 @@ fn assigned(ledger: &[u64], actor: usize, rule: usize, user: usize) -> Option<Pe
     requires { (ledger_words ≤ length ledger.now) × InRange 256 64 actor rule user }
     ensures { result ≡ then_some (may_assign_in ledger.now actor rule user) (assigned_in ledger.now rule user) }
 {
-    let used = ledgers::assign(ledger, rule);
-    let person = ledgers::person(ledger, user);
-    let may = may_assign(used, ledgers::person(ledger, actor), person);
+    let used = row_at(ledger, ASSIGN_RULES, rule);
+    let person = row_at(ledger, PEOPLE, user);
+    let may = may_assign(used, row_at(ledger, PEOPLE, actor), person);
     may.then_some(person.with_role(used.target))
 }
 
@@ -32,9 +33,9 @@ fn revoked(ledger: &[u64], actor: usize, rule: usize, user: usize) -> Option<Per
     requires { (ledger_words ≤ length ledger.now) × InRange 256 64 actor rule user }
     ensures { result ≡ then_some (may_revoke_in ledger.now actor rule user) (revoked_in ledger.now rule user) }
 {
-    let used = ledgers::revoke(ledger, rule);
-    let person = ledgers::person(ledger, user);
-    let may = may_revoke(used, ledgers::person(ledger, actor), person);
+    let used = row_at(ledger, REVOKE_RULES, rule);
+    let person = row_at(ledger, PEOPLE, user);
+    let may = may_revoke(used, row_at(ledger, PEOPLE, actor), person);
     may.then_some(person.without_role(used.target))
 }
 
@@ -43,7 +44,7 @@ fn left(ledger: &[u64], user: usize) -> Option<Person>
     requires { (ledger_words ≤ length ledger.now) × (user < 64) }
     ensures { result ≡ then_some (may_leave_in ledger.now user) (left_in ledger.now user) }
 {
-    let person = ledgers::person(ledger, user);
+    let person = row_at(ledger, PEOPLE, user);
     person.present.then_some(person.leaver())
 }
 
@@ -55,7 +56,7 @@ fn store_changed(ledger: &mut [u64], user: usize, changed: Option<Person>) -> bo
     let Some(person) = changed else {
         return false;
     };
-    ledgers::store_person(ledger, user, person);
+    store_row(ledger, PEOPLE, user, person);
     true
 }
 
@@ -123,7 +124,7 @@ fn lowest_goal(ledger: &[u64], count: usize, roles: RoleSet) -> Option<usize>
     ensures { result ≡ lowest_goal (rows_in goal_sets ledger.now count) roles }
 {
     for place in 0..count {
-        if ledgers::goal(ledger, place).within(roles) {
+        if row_at(ledger, GOALS, place).within(roles) {
             return Some(place + 1);
         }
     }
@@ -148,7 +149,7 @@ pub fn first_bad(ledger: &[u64], users: usize, count: usize) -> Option<Found>
     ensures { result ≡ first_bad (rows_in people ledger.now users) (rows_in goal_sets ledger.now count) }
 {
     for place in 0..users {
-        let person = ledgers::person(ledger, place);
+        let person = row_at(ledger, PEOPLE, place);
         if let Some(goal) = own_goal(ledger, count, person) {
             let user = place + 1;
             return Some(Found { user, goal });

@@ -3,14 +3,15 @@
 #![tactic(auto)]
 
 ghost use Rattle.std.specs.Prelude.{Bool, true, ◌≡◌, ◌*◌, ◌≤◌, ◌<◌, length, drop};
-ghost use Rattle.tables.specs.Names.{row_of, rows};
+ghost use Rattle.tables.specs.Names.{row_of};
+ghost use Rattle.tables.specs.Listed.{rows_of};
 ghost use Rattle.writing.specs.Written.{put};
 ghost use Rattle.spelling.specs.TypingText.{set_text, row_text, typing_text};
 ghost use Rattle.spelling.specs.TypingPieces.{member_text, field_text, label_field};
 
 use model::Typing;
 use roles::RoleSet;
-use tables::Name;
+use tables::{Name, Names};
 use writing::names::{name_length, write_name};
 use writing::pieces::write_bytes;
 
@@ -37,17 +38,17 @@ fn write_member(out: &mut [u8], name: Name, some: bool) -> usize
 }
 
 // How many bytes the text of a set has.
-fn set_length(roles: &[u64], count: usize, set: RoleSet) -> usize
-    requires { (4 * count ≤ length roles.now) × (count ≤ 128) }
-    ensures { result ≡ length (set_text (rows count roles.now) set) }
+fn set_length(roles: Names, set: RoleSet) -> usize
+    requires { roles.count ≤ 128 }
+    ensures { result ≡ length (set_text (rows_of roles.entry) set) }
 {
     let mut some = false;
     let mut at: usize = 0;
     for role in set.roles() {
-        if count <= role {
+        if roles.count <= role {
             break;
         }
-        at += member_length(tables::row(roles, role), some);
+        at += member_length(roles.row(role), some);
         some = true;
     }
     if some {
@@ -57,17 +58,17 @@ fn set_length(roles: &[u64], count: usize, set: RoleSet) -> usize
 }
 
 // Puts the text of a set at the start of a buffer, and answers how many bytes it has.
-pub fn write_set(out: &mut [u8], roles: &[u64], count: usize, set: RoleSet) -> usize
-    requires { (4 * count ≤ length roles.now) × (count ≤ 128) × (length (set_text (rows count roles.now) set) ≤ length out.old) }
-    ensures { (result ≡ length (set_text (rows count roles.now) set)) × (out.new ≡ put (set_text (rows count roles.now) set) out.old) }
+pub fn write_set(out: &mut [u8], roles: Names, set: RoleSet) -> usize
+    requires { (roles.count ≤ 128) × (length (set_text (rows_of roles) set) ≤ length out.old) }
+    ensures { (result ≡ length (set_text (rows_of roles.entry) set)) × (out.new ≡ put (set_text (rows_of roles.entry) set) out.old) }
 {
     let mut some = false;
     let mut at: usize = 0;
     for role in set.roles() {
-        if count <= role {
+        if roles.count <= role {
             break;
         }
-        at += write_member(&mut out[at..], tables::row(roles, role), some);
+        at += write_member(&mut out[at..], roles.row(role), some);
         some = true;
     }
     if some {
@@ -77,11 +78,11 @@ pub fn write_set(out: &mut [u8], roles: &[u64], count: usize, set: RoleSet) -> u
 }
 
 // Puts the text of a set and the byte that ends its field at the start of a buffer, and answers how many bytes they are.
-fn write_field(out: &mut [u8], roles: &[u64], count: usize, set: RoleSet, end: u8) -> usize
-    requires { (4 * count ≤ length roles.now) × (count ≤ 128) × (length (field_text (rows count roles.now) set end) ≤ length out.old) }
-    ensures { (result ≡ length (field_text (rows count roles.now) set end)) × (out.new ≡ put (field_text (rows count roles.now) set end) out.old) }
+fn write_field(out: &mut [u8], roles: Names, set: RoleSet, end: u8) -> usize
+    requires { (roles.count ≤ 128) × (length (field_text (rows_of roles) set end) ≤ length out.old) }
+    ensures { (result ≡ length (field_text (rows_of roles.entry) set end)) × (out.new ≡ put (field_text (rows_of roles.entry) set end) out.old) }
 {
-    let at = write_set(out, roles, count, set);
+    let at = write_set(out, roles, set);
     out[at] = end;
     at + 1
 }
@@ -98,58 +99,57 @@ fn write_label(out: &mut [u8], label: bool) -> usize
 }
 
 // How many bytes a role's line has, with either label: the name and the two sets, and five for the label, three tabs and the end.
-fn row_length(roles: &[u64], count: usize, role: usize, plus: RoleSet, minus: RoleSet) -> usize
-    requires { (4 * count ≤ length roles.now) × (count ≤ 128) × (role < count) }
-    ensures { (label : Bool) → result ≡ length (row_text (rows count roles.now) (row_of (drop (4 * role) roles.now)) label plus minus) }
+fn row_length(roles: Names, role: usize, plus: RoleSet, minus: RoleSet) -> usize
+    requires { (roles.count ≤ 128) × (role < roles.count) }
+    ensures { (label : Bool) → result ≡ length (row_text (rows_of roles.entry) (row_of (drop (4 * role) roles.entry.words.now)) label plus minus) }
 {
-    let name = name_length(tables::row(roles, role));
-    name + set_length(roles, count, plus) + set_length(roles, count, minus) + 5
+    let name = name_length(roles.row(role));
+    name + set_length(roles, plus) + set_length(roles, minus) + 5
 }
 
 // Puts a role's line at the start of a buffer, and answers how many bytes it has.
 fn write_row(
     out: &mut [u8],
-    roles: &[u64],
-    count: usize,
+    roles: Names,
     role: usize,
     label: bool,
     plus: RoleSet,
     minus: RoleSet,
 ) -> usize
-    requires { (4 * count ≤ length roles.now) × (count ≤ 128) × (role < count) × (length (row_text (rows count roles.now) (row_of (drop (4 * role) roles.now)) label plus minus) ≤ length out.old) }
-    ensures { (result ≡ length (row_text (rows count roles.now) (row_of (drop (4 * role) roles.now)) label plus minus)) × (out.new ≡ put (row_text (rows count roles.now) (row_of (drop (4 * role) roles.now)) label plus minus) out.old) }
+    requires { (roles.count ≤ 128) × (role < roles.count) × (length (row_text (rows_of roles) (row_of (drop (4 * role) roles.words.now)) label plus minus) ≤ length out.old) }
+    ensures { (result ≡ length (row_text (rows_of roles.entry) (row_of (drop (4 * role) roles.entry.words.now)) label plus minus)) × (out.new ≡ put (row_text (rows_of roles.entry) (row_of (drop (4 * role) roles.entry.words.now)) label plus minus) out.old) }
 {
-    let mut at = write_name(out, tables::row(roles, role));
+    let mut at = write_name(out, roles.row(role));
     at += write_label(&mut out[at..], label);
-    at += write_field(&mut out[at..], roles, count, plus, b'\t');
-    at + write_field(&mut out[at..], roles, count, minus, b'\n')
+    at += write_field(&mut out[at..], roles, plus, b'\t');
+    at + write_field(&mut out[at..], roles, minus, b'\n')
 }
 
 // How many bytes a typing's text has: nine of the header, the lines, four of `end`.
-pub fn text_length(roles: &[u64], count: usize, t: Typing) -> usize
-    requires { (4 * count ≤ length roles.now) × (count ≤ 128) }
-    ensures { result ≡ length (typing_text (rows count roles.now) t) }
+pub fn text_length(roles: Names, t: Typing) -> usize
+    requires { roles.count ≤ 128 }
+    ensures { result ≡ length (typing_text (rows_of roles.entry) t) }
 {
     let mut total = 9;
-    for role in 0..count {
+    for role in 0..roles.count {
         let plus = t.plus[role];
         let minus = t.minus[role];
-        total += row_length(roles, count, role, plus, minus);
+        total += row_length(roles, role, plus, minus);
     }
     total + 4
 }
 
 // Puts a typing's text at the start of a buffer, each line where the one before it ends, and answers how many bytes it has.
-pub fn write_typing(out: &mut [u8], roles: &[u64], count: usize, t: Typing) -> usize
-    requires { (4 * count ≤ length roles.now) × (count ≤ 128) × (length (typing_text (rows count roles.now) t) ≤ length out.old) }
-    ensures { (result ≡ length (typing_text (rows count roles.now) t)) × (out.new ≡ put (typing_text (rows count roles.now) t) out.old) }
+pub fn write_typing(out: &mut [u8], roles: Names, t: Typing) -> usize
+    requires { (roles.count ≤ 128) × (length (typing_text (rows_of roles) t) ≤ length out.old) }
+    ensures { (result ≡ length (typing_text (rows_of roles.entry) t)) × (out.new ≡ put (typing_text (rows_of roles.entry) t) out.old) }
 {
     let mut at = write_bytes(out, b"typing\t1\n");
-    for role in 0..count {
+    for role in 0..roles.count {
         let label = t.labels[role];
         let plus = t.plus[role];
         let minus = t.minus[role];
-        at += write_row(&mut out[at..], roles, count, role, label, plus, minus);
+        at += write_row(&mut out[at..], roles, role, label, plus, minus);
     }
     at + write_bytes(&mut out[at..], b"end\n")
 }

@@ -1,8 +1,8 @@
 // The sum of two typings, as a table and as a text, asked for alone.
 #![tactic(auto)]
 
-ghost use Rattle.std.specs.Prelude.{◌≡◌, length, ◌*◌, ◌≤◌};
-ghost use Rattle.tables.specs.Names.{rows};
+ghost use Rattle.std.specs.Prelude.{◌≡◌, length, ◌≤◌};
+ghost use Rattle.tables.specs.Listed.{rows_of};
 ghost use Rattle.ledgers.specs.Ledger.{ledger_words};
 ghost use Rattle.ledgers.specs.Memory.{no_memory, in_memory, Spared};
 ghost use Rattle.summing.specs.Outcome.{leaves, Meets};
@@ -14,6 +14,7 @@ use judging::pinned;
 use ledgers::{NO_MEMORY, WORDS};
 use model::Typing;
 use reading::read_policy;
+use tables::Names;
 use typings::read_typing;
 use walking::Refusal;
 
@@ -46,14 +47,14 @@ pub fn sum_of(t: Typing, u: Typing) -> Typing
     s
 }
 
-// The sum of two typings over so many role names, written where its text fits; 18 where it does not.
-fn write_sum(names: &[u64], roles: usize, t: Typing, out: &mut [u8]) -> Result<Summed, SumRefused>
-    requires { (4 * roles ≤ length names.now) × (roles ≤ 128) }
-    ensures { Meets (sum_written (length out.old) (rows roles names.now) t) out.old result out.new }
+// The sum of two typings over the role names, written where its text fits; 18 where it does not.
+fn write_sum(roles: Names, t: Typing, out: &mut [u8]) -> Result<Summed, SumRefused>
+    requires { roles.count ≤ 128 }
+    ensures { Meets (sum_written (length out.old) (rows_of roles.entry) t) out.old result out.new }
 {
-    match write_fitting(out, names, roles, t) {
+    match write_fitting(out, roles, t) {
         Some(length) => Ok(Summed {
-            pinned: pinned(t, roles),
+            pinned: pinned(t, roles.count),
             length,
         }),
         None => Err(SumRefused {
@@ -79,18 +80,21 @@ fn sum_with(
     ensures { Meets (sum_outcome policy.now first.now second.now (length out.old)) out.old result out.new }
 {
     let roles = match read_policy(policy, ledger) {
-        Ok(counts) => counts.roles,
+        Ok(counts) => Names {
+            words: ledger,
+            count: counts.roles,
+        },
         Err(refusal) => return Err(SumRefused { text: 1, refusal }),
     };
-    let t = match read_typing(first, ledger, roles) {
+    let t = match read_typing(first, roles) {
         Ok(typing) => typing,
         Err(refusal) => return Err(SumRefused { text: 2, refusal }),
     };
-    let u = match read_typing(second, ledger, roles) {
+    let u = match read_typing(second, roles) {
         Ok(typing) => typing,
         Err(refusal) => return Err(SumRefused { text: 3, refusal }),
     };
-    write_sum(ledger, roles, sum_of(t, u), out)
+    write_sum(roles, sum_of(t, u), out)
 }
 
 // The sum of two typings over a policy, written into the lent buffer.

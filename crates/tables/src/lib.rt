@@ -2,7 +2,7 @@
 #![tactic(auto)]
 
 ghost use Rattle.std.specs.Prelude.{◌≡◌, ◌+◌, ◌*◌, ◌≤◌, ◌<◌, length, take, drop};
-ghost use Rattle.tables.specs.Names.{value, packed, found_in, name_at, row_of, rows};
+ghost use Rattle.tables.specs.Names.{value, packed, found_in, name_at, row_of};
 
 // A name of at most 32 bytes, eight to a word, the first lowest, and zeros past its end.
 #[derive(Clone, Copy, PartialEq, Eq)]
@@ -70,40 +70,50 @@ pub fn pack(field: &[u8]) -> Name
     }
 }
 
-// The name at a place of a table, four words each.
-pub fn row(table: &[u64], place: usize) -> Name
-    requires { 4 * place + 3 < length table.now }
-    ensures { result ≡ row_of (drop (4 * place) table.now) }
-{
-    let at = 4 * place;
-    Name {
-        first: table[at],
-        second: table[at + 1],
-        third: table[at + 2],
-        fourth: table[at + 3],
-    }
+// A table of names, four words each, and how many there are.
+#[derive(Clone, Copy)]
+pub struct Names<'a> {
+    pub words: &'a [u64],
+    pub count: usize,
+    pub ghost within: { 4 * count ≤ length words.now },
 }
 
-// The name at a place among the first `count` of a table, and the name of no bytes where there is none.
-pub fn name_at(table: &[u64], count: usize, place: usize) -> Name
-    requires { 4 * count ≤ length table.now }
-    ensures { result ≡ name_at (rows count table.now) place }
-{
-    if place < count {
-        return row(table, place);
-    }
-    pack(b"")
-}
+impl<'a> Names<'a> {
+    ghost use Rattle.tables.specs.Listed.{rows_of};
 
-// The place of a name among the first `count` of a table, none where it stands nowhere.
-pub fn find(table: &[u64], count: usize, name: Name) -> Option<usize>
-    requires { 4 * count ≤ length table.now }
-    ensures { result ≡ found_in (rows count table.now) name }
-{
-    for place in 0..count {
-        if row(table, place) == name {
-            return Some(place);
+    // The name at a place of the table.
+    pub fn row(self, place: usize) -> Name
+        requires { place < self.count }
+        ensures { result ≡ row_of (drop (4 * place) self.entry.words.now) }
+    {
+        let at = 4 * place;
+        Name {
+            first: self.words[at],
+            second: self.words[at + 1],
+            third: self.words[at + 2],
+            fourth: self.words[at + 3],
         }
     }
-    None
+
+    // The name at a place, and the name of no bytes where there is none.
+    pub fn at(self, place: usize) -> Name
+        ensures { result ≡ name_at (rows_of self.entry) place }
+    {
+        if place < self.count {
+            return self.row(place);
+        }
+        pack(b"")
+    }
+
+    // The place of a name, none where it stands nowhere.
+    pub fn find(self, name: Name) -> Option<usize>
+        ensures { result ≡ found_in (rows_of self.entry) name }
+    {
+        for place in 0..self.count {
+            if self.row(place) == name {
+                return Some(place);
+            }
+        }
+        None
+    }
 }

@@ -1,9 +1,9 @@
 // A typing text, read line by line over the policy's role names.
 #![tactic(auto)]
 
-ghost use Rattle.std.specs.Prelude.{◌≡◌, ◌*◌, ◌≤◌, length, List};
+ghost use Rattle.std.specs.Prelude.{◌≡◌, ◌≤◌, length, List};
 ghost use Rattle.tables.specs.declared.Name.{Name};
-ghost use Rattle.tables.specs.Names.{rows};
+ghost use Rattle.tables.specs.Listed.{rows_of};
 ghost use Rattle.typings.specs.TypingLines.{Line, one_field, two_fields, judged, typing_line};
 ghost use Rattle.typings.specs.TypingText.{typing_read};
 
@@ -12,6 +12,7 @@ pub mod kind;
 use fields::read_set;
 use model::Typing;
 use roles::RoleSet;
+use tables::Names;
 use walking::{Fault, Refusal, pass};
 
 // What a good line says: a row's label is true for H.
@@ -51,17 +52,19 @@ fn row_line(
     label: &[u8],
     plus: &[u8],
     minus: &[u8],
-    roles: &[u64],
-    count: usize,
+    roles: Names,
     stage: usize,
 ) -> Result<TypingEntry, Fault>
-    requires { (length plus.now ≤ 32768) × (length minus.now ≤ 32768) × (4 * count ≤ length roles.now) × (count ≤ 128) }
-    ensures { result ≡ judged stage (rows count roles.now) (Line.row name.now label.now plus.now minus.now) }
+    requires { (length plus.now ≤ 32768) × (length minus.now ≤ 32768) × (roles.count ≤ 128) }
+    ensures { result ≡ judged stage (rows_of roles.entry) (Line.row name.now label.now plus.now minus.now) }
 {
-    let ordered = (1 <= stage) & (stage <= count) & text::is_name(name) & text::is_label(label);
+    let ordered = (1 <= stage)
+        & (stage <= roles.count)
+        & text::is_name(name)
+        & text::is_label(label);
     pass(ordered, Fault::Malformed)?;
-    let (plus, minus) = fields::both(read_set(plus, roles, count), read_set(minus, roles, count))?;
-    let place = tables::find(roles, count, tables::pack(name));
+    let (plus, minus) = fields::both(read_set(plus, roles), read_set(minus, roles))?;
+    let place = roles.find(tables::pack(name));
     pass(place == Some(stage - 1), Fault::Undeclared)?;
     Ok(TypingEntry::Row {
         label: text::same(label, b"H"),
@@ -71,20 +74,15 @@ fn row_line(
 }
 
 // One line of a typing, without its LF, judged on its own bytes, its place and the role names.
-pub fn read_line(
-    line: &[u8],
-    roles: &[u64],
-    count: usize,
-    stage: usize,
-) -> Result<TypingEntry, Fault>
-    requires { (length line.now ≤ 32768) × (4 * count ≤ length roles.now) × (count ≤ 128) }
-    ensures { result ≡ typing_line stage (rows count roles.now) line.now }
+pub fn read_line(line: &[u8], roles: Names, stage: usize) -> Result<TypingEntry, Fault>
+    requires { (length line.now ≤ 32768) × (roles.count ≤ 128) }
+    ensures { result ≡ typing_line stage (rows_of roles.entry) line.now }
 {
     let end = line.len();
     let a = text::seek(line, 0, b'\t');
     let word = &line[0..a];
     if a == end {
-        return end_line(word, count, stage);
+        return end_line(word, roles.count, stage);
     }
     let b = text::seek(line, a + 1, b'\t');
     let first = &line[a + 1..b];
@@ -99,21 +97,14 @@ pub fn read_line(
     if e < end {
         return Err(Fault::Malformed);
     }
-    row_line(
-        word,
-        first,
-        &line[b + 1..d],
-        &line[d + 1..e],
-        roles,
-        count,
-        stage,
-    )
+    row_line(word, first, &line[b + 1..d], &line[d + 1..e], roles, stage)
 }
 
-// A typing text over the policy's role names. The first bad line decides the refusal.
-pub fn read_typing(text: &[u8], roles: &[u64], count: usize) -> Result<Typing, Refusal>
-    requires { (4 * count ≤ length roles.now) × (count ≤ 128) }
-    ensures { result ≡ typing_read (rows count roles.now) text.now }
+// A typing text over the policy's role names. The first bad line decides the refusal. It goes by the LFs, each found by `text::seek`, and
+// a line is cut out of the middle and handed on.
+pub fn read_typing(text: &[u8], roles: Names) -> Result<Typing, Refusal>
+    requires { roles.count ≤ 128 }
+    ensures { result ≡ typing_read (rows_of roles.entry) text.now }
 {
     let end = text.len();
     if 32768 < end {
@@ -136,7 +127,7 @@ pub fn read_typing(text: &[u8], roles: &[u64], count: usize) -> Result<Typing, R
         if stop == end {
             return Err(Fault::Malformed.in_evidence(number));
         }
-        let answer = read_line(&text[at..stop], roles, count, stage);
+        let answer = read_line(&text[at..stop], roles, stage);
         let Ok(entry) = answer else {
             return Err(answer.unwrap_err().in_evidence(number));
         };

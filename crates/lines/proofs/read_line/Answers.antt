@@ -30,7 +30,7 @@ unfolding policy_line
 returns-then-f-end c = other_judged _ _ _ ∙ ap (judged _ _ _) (line_more _ _ (beyond_five c.seek-a.ensures c.if-a-end.false c.seek-b.ensures c.if-b-end.false c.seek-d.ensures c.if-d-end.false c.seek-e.ensures c.if-e-end.false c.seek-f.ensures c.if-f-end.true))
 
 pub assign_line-requires : goal.assign_line-requires
-assign_line-requires c = (part_short c.args.line.now (c.seek-b.result + 1) c.seek-d.result c.requires.0, part_short c.args.line.now (c.seek-d.result + 1) c.seek-e.result c.requires.0, c.requires.1, c.requires.3)
+assign_line-requires c = (part_short c.args.line.now (c.seek-b.result + 1) c.seek-d.result c.requires.0, part_short c.args.line.now (c.seek-d.result + 1) c.seek-e.result c.requires.0, c.requires.1)
 
 pub returns-then-same : goal.returns-then-same
 unfolding policy_line

@@ -58,23 +58,11 @@ returns-then-at-end c = ap Err c.in_evidence-then-at-end.ensures ∙ sym ((run_r
 pub first_bad-found-requires : goal.first_bad-found-requires
 first_bad-found-requires c = let limits = c.loop-at.invariant.1.limited in omega (arith, limits.users, limits.goals)
 
-pub slice_bounds-users-count : goal.slice_bounds-users-count
-slice_bounds-users-count c = omega arith
-
-pub ending-requires : goal.ending-requires
-ending-requires c = omega (arith, c.loop-at.invariant.1.limited.users)
-
 pub shape_of-ledger-then-same : goal.shape_of-ledger-then-same
 shape_of-ledger-then-same c = c.loop-at.invariant.0
 
 pub returns-then-same : goal.returns-then-same
 returns-then-same c = reached_last c.loop-at.invariant.1 c.seek-stop.ensures (omega (arith, c.seek-stop.ensures, c.if-stop-end.false)) (sym c.same.ensures ∙ c.if-same.true) c.if-at-end.false c.first_bad-found.ensures c.ending.ensures
-
-pub slice_bounds-read_line-count : goal.slice_bounds-read_line-count
-slice_bounds-read_line-count c = omega arith
-
-pub read_line-answer-requires : goal.read_line-answer-requires
-read_line-answer-requires c = omega (arith, c.loop-at.invariant.1.limited.users)
 
 pub shape_of-ledger-in_default : goal.shape_of-ledger-in_default
 shape_of-ledger-in_default c = c.loop-at.invariant.0

@@ -5,4 +5,4 @@ use Rattle.spelling.proofs.TypingSteps.{lines_below}
 use Rattle.spelling.proofs.text_length.Given as goal
 
 abbrev pub invariant-loop-role : goal.invariant-loop-role
-invariant-loop-role l = l.total ≡ length (lines_below l.count l.roles (meaning l.t) l.role)
+invariant-loop-role l = l.total ≡ length (lines_below l.roles.count l.roles.words.now (meaning l.t) l.role)

@@ -6,4 +6,4 @@ use Rattle.spelling.proofs.Members.{SetPassed}
 use Rattle.spelling.proofs.write_set.Given as goal
 
 abbrev pub invariant-loop-role : goal.invariant-loop-role
-invariant-loop-role l = (from : ℕ) × SetPassed l.roles l.count l.fn.set from l.role-iterator.left l.some × Wrote (set_below l.roles l.fn.set from) l.initial.out l.at l.out
+invariant-loop-role l = (from : ℕ) × SetPassed l.roles.words.now l.roles.count l.fn.set from l.role-iterator.left l.some × Wrote (set_below l.roles.words.now l.fn.set from) l.initial.out l.at l.out

@@ -7,4 +7,4 @@ use Rattle.spelling.proofs.TypingSteps.{lines_below}
 use Rattle.spelling.proofs.write_typing.Given as goal
 
 abbrev pub invariant-loop-role : goal.invariant-loop-role
-invariant-loop-role l = (buffer : List ℕ) → Wrote (bytes "typing\t1\n") buffer l.initial.at l.initial.out → Wrote (lines_below l.count l.roles (meaning l.t) l.role) buffer l.at l.out
+invariant-loop-role l = (buffer : List ℕ) → Wrote (bytes "typing\t1\n") buffer l.initial.at l.initial.out → Wrote (lines_below l.roles.count l.roles.words.now (meaning l.t) l.role) buffer l.at l.out

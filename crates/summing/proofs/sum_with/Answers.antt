@@ -10,15 +10,18 @@ use Rattle.summing.proofs.sum_with.Goals as goal
 pub returns-in-Err : goal.returns-in-Err
 returns-in-Err c = meets_leaving (sum_policy_refused _ _ _ _ (untold c.read_policy.ensures c.in-Err.is))
 
+pub invariant_of-roles : goal.invariant_of-roles
+invariant_of-roles c = record { within = omega (arith, (told c.read_policy.ensures c.in-Ok.is).limited.roles, c.requires) }
+
 pub read_typing-requires : goal.read_typing-requires
-read_typing-requires c = let few = (told c.read_policy.ensures c.in-Ok.is).limited.roles in (omega (arith, few, c.requires), few)
+read_typing-requires c = (told c.read_policy.ensures c.in-Ok.is).limited.roles
 
 pub returns-in-Err-read_typing : goal.returns-in-Err-read_typing
 returns-in-Err-read_typing c = let p = policy_read (told c.read_policy.ensures c.in-Ok.is) in
     meets_leaving (sum_first_refused _ _ _ _ p (typing_refused _ _ _ (sym c.in-Err-read_typing.is ∙ c.read_typing.ensures)))
 
 pub read_typing-requires-2 : goal.read_typing-requires-2
-read_typing-requires-2 c = let few = (told c.read_policy.ensures c.in-Ok.is).limited.roles in (omega (arith, few, c.requires), few)
+read_typing-requires-2 c = (told c.read_policy.ensures c.in-Ok.is).limited.roles
 
 pub returns-in-Err-read_typing-2 : goal.returns-in-Err-read_typing-2
 returns-in-Err-read_typing-2 c = let p = policy_read (told c.read_policy.ensures c.in-Ok.is) in
@@ -26,7 +29,7 @@ returns-in-Err-read_typing-2 c = let p = policy_read (told c.read_policy.ensures
     meets_leaving (sum_second_refused _ _ _ _ p t.is (typing_refused _ _ _ (sym c.in-Err-read_typing-2.is ∙ c.read_typing-2.ensures)))
 
 pub write_sum-requires : goal.write_sum-requires
-write_sum-requires c = let few = (told c.read_policy.ensures c.in-Ok.is).limited.roles in (omega (arith, few, c.requires), few)
+write_sum-requires c = (told c.read_policy.ensures c.in-Ok.is).limited.roles
 
 pub returns : goal.returns
 returns c = let p = policy_read (told c.read_policy.ensures c.in-Ok.is) in

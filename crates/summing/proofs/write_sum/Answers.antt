@@ -10,4 +10,4 @@ returns-in-None c = sum_unwritten _ _ _ c.write_fitting.ensures c.in-None.is
 
 pub returns-in-Some : goal.returns-in-Some
 returns-in-Some c = sum-written _ _ _ c.write_fitting.ensures c.in-Some.is
-    (c.pinned.ensures ∙ ap (pinned_names c.args.t) (sym (rows_length c.args.roles c.args.names.now)))
+    (c.pinned.ensures ∙ ap (pinned_names c.args.t) (sym (rows_length c.args.roles.count c.args.roles.words.now)))

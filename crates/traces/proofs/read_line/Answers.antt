@@ -11,11 +11,11 @@ returns-then-a-end c = by_fields _ _ _ _ (one_field_lem c.seek-a.ensures c.if-a-
 
 pub returns-then-b-end : goal.returns-then-b-end
 unfolding line_of
-returns-then-b-end c = c.leave_line.ensures ∙ by_fields _ _ _ _ (two_fields_lem c.seek-a.ensures c.if-a-end.false c.seek-b.ensures c.if-b-end.true)
+returns-then-b-end c = c.leave_line.ensures _ _ ∙ by_fields _ _ _ _ (two_fields_lem c.seek-a.ensures c.if-a-end.false c.seek-b.ensures c.if-b-end.true)
 
 pub returns-then-d-end : goal.returns-then-d-end
 unfolding line_of
-returns-then-d-end c = c.join_line.ensures ∙ by_fields _ _ _ _ (three_fields_lem c.seek-a.ensures c.if-a-end.false c.seek-b.ensures c.if-b-end.false c.seek-d.ensures c.if-d-end.true)
+returns-then-d-end c = c.join_line.ensures _ _ ∙ by_fields _ _ _ _ (three_fields_lem c.seek-a.ensures c.if-a-end.false c.seek-b.ensures c.if-b-end.false c.seek-d.ensures c.if-d-end.true)
 
 pub returns-then-e-end : goal.returns-then-e-end
 unfolding line_of judged comes_to step_formed

@@ -29,7 +29,7 @@ pub returns-then-stop-end : goal.returns-then-stop-end
 returns-then-stop-end c = ap Err c.in_evidence.ensures ∙ reached_tail c.loop-at.invariant c.seek-stop.ensures c.if-stop-end.true
 
 pub read_line-answer-requires : goal.read_line-answer-requires
-read_line-answer-requires c = (part_short c.args.text.now c.loop-at.at c.seek-stop.result c.loop-at.invariant.on.short, c.requires.0, c.requires.1)
+read_line-answer-requires c = (part_short c.args.text.now c.loop-at.at c.seek-stop.result c.loop-at.invariant.on.short, c.requires)
 
 pub returns-in_default : goal.returns-in_default
 returns-in_default c = ap Err c.in_evidence-in_default.ensures ∙ line_refused c.loop-at.invariant c.seek-stop.ensures (search rules) c.read_line-answer.ensures c.unwrap_err.ensures
@@ -41,25 +41,25 @@ pub overflow_sub-role : goal.overflow_sub-role
 overflow_sub-role c = omega (arith, row_fits c.loop-at.invariant c.seek-stop.ensures (search rules) c.read_line-answer.ensures (c.in-Ok.is ∙ ap Ok c.in-Row.is))
 
 pub bounds-typing-role : goal.bounds-typing-role
-bounds-typing-role c = omega (arith, row_fits c.loop-at.invariant c.seek-stop.ensures (search rules) c.read_line-answer.ensures (c.in-Ok.is ∙ ap Ok c.in-Row.is), rows_length c.args.count c.args.roles.now)
+bounds-typing-role c = omega (arith, row_fits c.loop-at.invariant c.seek-stop.ensures (search rules) c.read_line-answer.ensures (c.in-Ok.is ∙ ap Ok c.in-Row.is), rows_length c.args.roles.count c.args.roles.words.now)
 
 pub offset_bounds-typing-role : goal.offset_bounds-typing-role
-offset_bounds-typing-role c = omega (arith, row_fits c.loop-at.invariant c.seek-stop.ensures (search rules) c.read_line-answer.ensures (c.in-Ok.is ∙ ap Ok c.in-Row.is), rows_length c.args.count c.args.roles.now)
+offset_bounds-typing-role c = omega (arith, row_fits c.loop-at.invariant c.seek-stop.ensures (search rules) c.read_line-answer.ensures (c.in-Ok.is ∙ ap Ok c.in-Row.is), rows_length c.args.roles.count c.args.roles.words.now)
 
 pub bounds-typing-role-in-Row : goal.bounds-typing-role-in-Row
-bounds-typing-role-in-Row c = omega (arith, row_fits c.loop-at.invariant c.seek-stop.ensures (search rules) c.read_line-answer.ensures (c.in-Ok.is ∙ ap Ok c.in-Row.is), rows_length c.args.count c.args.roles.now)
+bounds-typing-role-in-Row c = omega (arith, row_fits c.loop-at.invariant c.seek-stop.ensures (search rules) c.read_line-answer.ensures (c.in-Ok.is ∙ ap Ok c.in-Row.is), rows_length c.args.roles.count c.args.roles.words.now)
 
 pub offset_bounds-typing-role-in-Row : goal.offset_bounds-typing-role-in-Row
-offset_bounds-typing-role-in-Row c = omega (arith, row_fits c.loop-at.invariant c.seek-stop.ensures (search rules) c.read_line-answer.ensures (c.in-Ok.is ∙ ap Ok c.in-Row.is), rows_length c.args.count c.args.roles.now)
+offset_bounds-typing-role-in-Row c = omega (arith, row_fits c.loop-at.invariant c.seek-stop.ensures (search rules) c.read_line-answer.ensures (c.in-Ok.is ∙ ap Ok c.in-Row.is), rows_length c.args.roles.count c.args.roles.words.now)
 
 pub bounds-typing-role-in-Row-2 : goal.bounds-typing-role-in-Row-2
-bounds-typing-role-in-Row-2 c = omega (arith, row_fits c.loop-at.invariant c.seek-stop.ensures (search rules) c.read_line-answer.ensures (c.in-Ok.is ∙ ap Ok c.in-Row.is), rows_length c.args.count c.args.roles.now)
+bounds-typing-role-in-Row-2 c = omega (arith, row_fits c.loop-at.invariant c.seek-stop.ensures (search rules) c.read_line-answer.ensures (c.in-Ok.is ∙ ap Ok c.in-Row.is), rows_length c.args.roles.count c.args.roles.words.now)
 
 pub overflow_add-stage : goal.overflow_add-stage
-overflow_add-stage c = omega (arith, row_fits c.loop-at.invariant c.seek-stop.ensures (search rules) c.read_line-answer.ensures (c.in-Ok.is ∙ ap Ok c.in-Row.is), rows_length c.args.count c.args.roles.now)
+overflow_add-stage c = omega (arith, row_fits c.loop-at.invariant c.seek-stop.ensures (search rules) c.read_line-answer.ensures (c.in-Ok.is ∙ ap Ok c.in-Row.is), rows_length c.args.roles.count c.args.roles.words.now)
 
 pub loop-at-preserved : goal.loop-at-preserved
-loop-at-preserved c = line_row c.loop-at.invariant c.seek-stop.ensures (search rules) c.read_line-answer.ensures (c.in-Ok.is ∙ ap Ok c.in-Row.is) (omega (arith, rows_length c.args.count c.args.roles.now))
+loop-at-preserved c = line_row c.loop-at.invariant c.seek-stop.ensures (search rules) c.read_line-answer.ensures (c.in-Ok.is ∙ ap Ok c.in-Row.is) (omega (arith, rows_length c.args.roles.count c.args.roles.words.now))
 
 pub returns-then-at-end : goal.returns-then-at-end
 returns-then-at-end c = ap Err c.in_evidence-then-at-end.ensures ∙ line_more c.loop-at.invariant c.seek-stop.ensures (search rules) c.read_line-answer.ensures (c.in-Ok.is ∙ ap Ok c.in-End.is) c.if-at-end.true

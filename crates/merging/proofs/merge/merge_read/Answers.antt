@@ -24,7 +24,10 @@ pub returns-in-Err-judge_rules-2 : goal.returns-in-Err-judge_rules-2
 returns-in-Err-judge_rules-2 c = meets_leaving (fails_four _ _ _ _ _ (sym c.same_directory.ensures ∙ c.if-not-same_directory.false) (sym c.judge_typing.ensures ∙ c.in_default.is) (sym c.judge_typing-2.ensures ∙ c.in_default-judge_typing.is) (sym c.judge_rules.ensures ∙ c.in_default-judge_rules.is) (sym c.judge_rules-2.ensures ∙ c.in-Err-judge_rules-2.is))
 
 pub write_joint-requires : goal.write_joint-requires
-write_joint-requires c = (omega (arith, c.requires.0, c.requires.1.roles), c.requires.1, c.requires.3)
+write_joint-requires c = (c.requires.1.roles, c.requires.1, c.requires.3)
+
+pub invariant_of-roles : goal.invariant_of-roles
+invariant_of-roles c = record { within = omega (arith, c.requires.0, c.requires.1.roles) }
 
 pub returns : goal.returns
 returns c = meets_as

@@ -7,7 +7,10 @@ use Rattle.merging.specs.MergeOutcomes.{typing_two_refused, all_read}
 use Rattle.merging.proofs.merge.merge_typed.Goals as goal
 
 pub read_typing-requires : goal.read_typing-requires
-read_typing-requires c = (omega (arith, two_room c.args.memory.now c.requires.0, c.requires.2.roles), c.requires.2.roles)
+read_typing-requires c = c.requires.2.roles
+
+pub invariant_of-roles : goal.invariant_of-roles
+invariant_of-roles c = record { within = omega (arith, two_room c.args.memory.now c.requires.0, c.requires.2.roles) }
 
 pub returns-in-Err : goal.returns-in-Err
 returns-in-Err c = meets_leaving (typing_two_refused _ _ _ _ _ (typing_refused _ _ _ (sym c.in-Err.is ∙ c.read_typing.ensures)))

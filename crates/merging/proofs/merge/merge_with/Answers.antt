@@ -27,15 +27,18 @@ read_policy-requires c = omega (arith, one_room c.args.memory.now c.requires)
 pub returns-in-Err : goal.returns-in-Err
 returns-in-Err c = meets_leaving (policy_one_refused _ _ _ _ _ (untold c.read_policy.ensures c.in-Err.is))
 
-pub slice_bounds-read_typing-end : goal.slice_bounds-read_typing-end
-slice_bounds-read_typing-end c = omega (arith, both c.args.memory.now c.read_policy.new.ledger c.requires c.read_policy.auto.ledger)
+pub slice_bounds-roles-end : goal.slice_bounds-roles-end
+slice_bounds-roles-end c = omega (arith, both c.args.memory.now c.read_policy.new.ledger c.requires c.read_policy.auto.ledger)
 
-pub slice_bounds-read_typing-end-2 : goal.slice_bounds-read_typing-end-2
-slice_bounds-read_typing-end-2 c = sym (one_room (with_one c.args.memory.now c.read_policy.new.ledger) (both c.args.memory.now c.read_policy.new.ledger c.requires c.read_policy.auto.ledger))
+pub slice_bounds-roles-end-2 : goal.slice_bounds-roles-end-2
+slice_bounds-roles-end-2 c = sym (one_room (with_one c.args.memory.now c.read_policy.new.ledger) (both c.args.memory.now c.read_policy.new.ledger c.requires c.read_policy.auto.ledger))
+
+pub invariant_of-roles : goal.invariant_of-roles
+invariant_of-roles c = let few = (told (read_one c.args.memory.now c.requires c.read_policy.ensures c.read_policy.auto.ledger) c.in-Ok.is).limited.roles in
+    record { within = omega (arith, one_room (with_one c.args.memory.now c.read_policy.new.ledger) (both c.args.memory.now c.read_policy.new.ledger c.requires c.read_policy.auto.ledger), few) }
 
 pub read_typing-requires : goal.read_typing-requires
-read_typing-requires c = let few = (told (read_one c.args.memory.now c.requires c.read_policy.ensures c.read_policy.auto.ledger) c.in-Ok.is).limited.roles in
-    (omega (arith, one_room (with_one c.args.memory.now c.read_policy.new.ledger) (both c.args.memory.now c.read_policy.new.ledger c.requires c.read_policy.auto.ledger), few), few)
+read_typing-requires c = (told (read_one c.args.memory.now c.requires c.read_policy.ensures c.read_policy.auto.ledger) c.in-Ok.is).limited.roles
 
 pub returns-in-Err-read_typing : goal.returns-in-Err-read_typing
 returns-in-Err-read_typing c = meets_leaving (typing_one_refused _ _ _ _ _ (policy_read (told (read_one c.args.memory.now c.requires c.read_policy.ensures c.read_policy.auto.ledger) c.in-Ok.is)) (typing_refused _ _ _ (sym c.in-Err-read_typing.is ∙ c.read_typing.ensures)))

@@ -14,9 +14,6 @@ returns-then-revokes-gt256 c = λ s s' one two named. meets_leaving (revokes_abo
 pub returns-then-goals-gt32 : goal.returns-then-goals-gt32
 returns-then-goals-gt32 c = λ s s' one two named. meets_leaving (goals_above s s' one two _ _ c.if-goals-gt32.true ∙ ap leaves (sym c.of_none-then-goals-gt32.ensures))
 
-pub write_fitting-requires : goal.write_fitting-requires
-write_fitting-requires c = (c.requires.0, c.requires.1.roles)
-
 pub returns-in-None : goal.returns-in-None
 returns-in-None c = λ s s' one two named. merge_unwritten s s' one two _ _ c.if-assigns-gt256.false c.if-revokes-gt256.false c.if-goals-gt32.false named c.write_fitting.ensures c.in-None.is c.of_none-in-None.ensures
 

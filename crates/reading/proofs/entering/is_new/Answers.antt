@@ -23,15 +23,15 @@ no-pair σ (Entry.Revoke rule) other = refl
 no-pair σ (Entry.Goal goal) other = refl
 no-pair σ Entry.End other = refl
 
-pub person-requires : goal.person-requires
-person-requires c = let listed : c.in-Has.user < c.args.c.users = subst (Fitting c.args.c) c.in-Has.is c.requires.2 in
+pub row_at-requires : goal.row_at-requires
+row_at-requires c = let listed : c.in-Has.user < c.args.c.users = subst (Fitting c.args.c) c.in-Has.is c.requires.2 in
     (c.requires.0, omega (arith, listed, c.requires.1.users))
 
 pub returns-in-Has : goal.returns-in-Has
 unfolding is_new person
 returns-in-Has c =
     let listed : c.in-Has.user < c.args.c.users = subst (Fitting c.args.c) c.in-Has.is c.requires.2 in
-    ap not (c.has.ensures ∙ ap (λ (p : Person). has_role p.roles c.in-Has.role) (c.person.ensures ∙ sym (rows_at people c.args.ledger.now c.args.c.users c.in-Has.user nobody listed)))
+    ap not (c.has.ensures ∙ ap (λ (p : Person). has_role p.roles c.in-Has.role) (c.row_at.ensures ∙ sym (rows_at people c.args.ledger.now c.args.c.users c.in-Has.user nobody listed)))
     ∙ sym (ap (is_new (rows_in people c.args.ledger.now c.args.c.users)) c.in-Has.is)
 
 pub returns-in_default : goal.returns-in_default

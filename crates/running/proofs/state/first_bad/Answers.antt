@@ -30,12 +30,12 @@ bad-by goals own same is = cc
 pub returns-in-Some : goal.returns-in-Some
 unfolding person
 returns-in-Some c =
-    let test = bad-by _ c.own_goal.ensures c.person-person.ensures c.in-Some.is in
+    let test = bad-by _ c.own_goal.ensures c.row_at-person.ensures c.in-Some.is in
     let row = rows_at people _ _ c.loop-place.place nobody c.loop-place-test.true in
-    answer-here _ _ c.loop-place.place (first_here c.loop-place.invariant c.loop-place-test.true test) (ap (own_goal _) (row ∙ sym c.person-person.ensures) ∙ sym c.own_goal.ensures ∙ c.in-Some.is)
+    answer-here _ _ c.loop-place.place (first_here c.loop-place.invariant c.loop-place-test.true test) (ap (own_goal _) (row ∙ sym c.row_at-person.ensures) ∙ sym c.own_goal.ensures ∙ c.in-Some.is)
 
 pub loop-place-preserved : goal.loop-place-preserved
-loop-place-preserved c = passed_more c.loop-place.invariant c.loop-place-test.true (bad-by _ c.own_goal.ensures c.person-person.ensures c.in_default.is)
+loop-place-preserved c = passed_more c.loop-place.invariant c.loop-place-test.true (bad-by _ c.own_goal.ensures c.row_at-person.ensures c.in_default.is)
 
 pub returns : goal.returns
 returns c = answer-none _ _ (first_nowhere c.loop-place.invariant c.loop-place-test.false)

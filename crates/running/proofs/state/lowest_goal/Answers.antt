@@ -10,7 +10,7 @@ pub returns-then-within : goal.returns-then-within
 unfolding lowest_goal
 returns-then-within c =
     ap Some (add-one c.loop-place.place)
-    ∙ sym (ap (option_map suc) (first_here c.loop-place.invariant c.loop-place-test.true (sym (c.within.ensures ∙ ap (includes c.args.roles) c.goal.ensures) ∙ c.if-within.true)))
+    ∙ sym (ap (option_map suc) (first_here c.loop-place.invariant c.loop-place-test.true (sym (c.within.ensures ∙ ap (includes c.args.roles) c.row_at.ensures) ∙ c.if-within.true)))
 
 pub returns : goal.returns
 unfolding lowest_goal

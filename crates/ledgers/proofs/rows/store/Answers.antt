@@ -3,7 +3,7 @@ use Rattle.std.proofs.Common.{◌+◌, length, take, drop, List, ℕ, ◌++◌, 
 use Rattle.std.proofs.Math.Seq.{take-length}
 use Rattle.std.proofs.lemmas.Slice.{put_mid-paste}
 use lib.Seq.{sets-eq}
-use Rattle.ledgers.proofs.store.Goals as goal
+use Rattle.ledgers.proofs.rows.store.Goals as goal
 
 pub returns : goal.returns
 returns c =
