@@ -67,7 +67,8 @@ fn traced(verdict: TraceVerdict) -> Answer
     }
 }
 
-// The answer to a typing text over the policy that a ledger says, or the refusal.
+// The answer to a typing text over the policy that a ledger says, or the refusal. It is taken by its cases and not by `?`, which would put one
+// typing of 4 KB more into the frame.
 fn typing_answer(evidence: &[u8], ledger: &[u64], c: Counts) -> Result<Answer, Refusal>
     requires { (ledger_words ≤ length ledger.now) × Limited c }
     ensures { answered result ≡ typing_answer c (subject_of (ledger_says ledger.now c)) (read_typing (rows c.roles ledger.now) evidence.now) }
@@ -76,8 +77,10 @@ fn typing_answer(evidence: &[u8], ledger: &[u64], c: Counts) -> Result<Answer, R
         words: ledger,
         count: c.roles,
     };
-    let t = read_typing(evidence, roles)?;
-    Ok(judged(judge_typing(ledger, c, t), c, t))
+    match read_typing(evidence, roles) {
+        Ok(t) => Ok(judged(judge_typing(ledger, c, t), c, t)),
+        Err(refusal) => Err(refusal),
+    }
 }
 
 // The answer to two texts, with a ledger to work in, or the refusal: the policy is read, then the evidence, and it is judged.
