@@ -116,7 +116,7 @@ module _ (names : List Name) (field : List ℕ) (plain : same_bytes field (bytes
         ap (λ (b : Bool). b && not (repeated (names_of field)))
         (ap (every is_name) all_names ∙ every_more is_name walked.done (p ∷ rest) ∙ ap (λ (b : Bool). every is_name walked.done && (b && every is_name rest)) bad ∙ and-false (every is_name walked.done))
 
-    walk_undeclared : is_declared names p ≡ false → Err (set_fault field Fault.Undeclared) ≡ set_read names field
+    pub walk_undeclared : is_declared names p ≡ false → Err (set_fault field Fault.Undeclared) ≡ set_read names field
     unfolding all_declared every
     walk_undeclared bad =
         set_undeclared (ap (every (is_declared names)) all_names ∙ every_more (is_declared names) walked.done (p ∷ rest)

@@ -36,6 +36,8 @@ pub fn both<A: Copy, B: Copy>(a: Result<A, Fault>, b: Result<B, Fault>) -> Resul
 }
 
 // A name field read against a table: the name's place.
+// For speed: in each caller, since a result that is handed back goes through memory.
+#[inline(always)]
 #[tactic(auto, using(crate::specs::FieldLaws::found_read), unfolding(crate::specs::Fields::name_read, crate::specs::Fields::field_read))]
 pub fn read_name(field: &[u8], names: Names) -> Result<usize, Fault>
     ensures { result ≡ name_read (rows_of names.entry) field.now }

@@ -8,11 +8,28 @@ use Rattle.text.specs.Forms.{bytes, is_name, is_set}
 use Rattle.text.specs.Pieces.{split, same_bytes}
 use Rattle.text.specs.PieceLaws.{split_piece}
 use Rattle.walking.specs.declared.Fault.{Fault}
+use Rattle.walking.specs.Faults.{policy_fault}
+use Rattle.walking.specs.Turns.{in_turn}
 use Rattle.lines.specs.declared.Counts.{Counts}
 use Rattle.lines.specs.declared.Entry.{Entry}
 use Rattle.fields.specs.Fields.{placed, is_declared, all_declared, roles_of, field_read, name_read, set_read, both_read}
 use Rattle.fields.specs.FieldLaws.{both_fields}
-use Rattle.lines.specs.Lines.{Line, asked, assign, comes_to, end, five_fields, goal, has, header, judged, line_of, one_field, other, policy_line, revoke, role, three_fields, two_fields, user}
+use Rattle.lines.specs.Lines.{Line, asked, assign, comes_to, end, five_fields, goal, has, header, judged, line_of, one_field, other, policy_line, revoke, role, tests, three_fields, two_fields, user}
+
+-- ---- the tests of a line in turn
+
+-- What a line comes to is the answer of its tests in turn, each with its number.
+comes_in_turn : (formed within known : Bool) (e : Entry) → comes_to formed within known e ≡ in_turn (λ number. Err (policy_fault number)) (tests formed within known) (Ok e)
+unfolding comes_to in_turn tests
+comes_in_turn true true true e = refl
+comes_in_turn true true false e = refl
+comes_in_turn true false known e = refl
+comes_in_turn false within known e = refl
+
+pub policy_in_turn : (c : Counts) (roles users : List Name) (line : List ℕ)
+    → let a = asked c roles users (line_of (split 9 line)) in policy_line c roles users line ≡ in_turn (λ number. Err (policy_fault number)) (tests a.formed a.within a.known) (Ok a.says)
+unfolding policy_line judged
+policy_in_turn c roles users line = let a = asked c roles users (line_of (split 9 line)) in comes_in_turn a.formed a.within a.known a.says
 
 -- ---- each kind of line, from what a reader finds
 

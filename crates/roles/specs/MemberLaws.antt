@@ -265,6 +265,11 @@ meet_sized s t sized = record {
   high = lt_of_le_of_lt (and_le_l s.high t.high) sized.high;
 }
 
+-- `==` compares both words, and is the test of equality
+pub same_each_word : (s t : RoleSet) → (eqb s.low t.low && eqb s.high t.high) ≡ same_set s t
+unfolding same_set
+same_each_word s t = refl
+
 pub same_equal : (s t : RoleSet) → same_set s t ≡ true → s ≡ t
 unfolding same_set
 same_equal s t h =

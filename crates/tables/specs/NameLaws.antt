@@ -1,9 +1,9 @@
 -- Names packed and found, from what a reader finds word by word; and that packing loses nothing.
 use Rattle.std.specs.Prelude.{ℕ, zero, suc, ◌+◌, ◌-◌, ◌*◌, ◌/◌, ◌^◌, ◌≤◌, ◌<◌, Bool, true, false, cond, ◌&&◌, List, [], ◌∷◌, ◌++◌, ◌≡◌, refl, eqb, leb, length, get_or, take, drop, replicate}
-use Rattle.std.proofs.Common.{zero-le, sym, ap, ap₂, ◌∙◌, leb-true, eqb-true, lit≤, drop_of_length-le, length-append, length-drop, take-append-drop, pow-add, drop-drop, get_or-drop, take_all, add-zero, zero-add, div-one, w64, arith}
+use Rattle.std.proofs.Common.{zero-le, sym, ap, ap₂, ◌∙◌, leb-true, eqb-true, lit≤, drop_of_length-le, length-append, length-drop, take-append-drop, pow-add, drop-cons, drop-drop, get_or-drop, take_all, add-zero, zero-add, div-one, pow-suc, w64, arith}
 use Rattle.std.proofs.Math.Bool.{and-eq-true_iff}
 use Rattle.std.proofs.Math.ListN.{get_or-eq_default}
-use Rattle.std.proofs.Math.Nat.{add-mul-div_left, div-div-eq-div-mul, div-eq_of_lt, zero-div}
+use Rattle.std.proofs.Math.Nat.{add-mul-div_left, div-div-eq-div-mul, div-eq_of_lt, pow-le-pow_right, zero-div}
 use Rattle.std.specs.Int.{from_le_bytes}
 use Rattle.std.proofs.lemmas.List.{drop-replicate}
 use Rattle.tables.specs.declared.Name.{Name}
@@ -11,6 +11,34 @@ use Rattle.text.specs.Eights.{eight-bytes}
 use Rattle.text.specs.Forms.{every, name_byte, is_name}
 use Rattle.text.specs.FormLaws.{name_byte_range, every_take, every_drop}
 use Rattle.tables.specs.Names.{packed, place_of, name_at, row_of, rows, same_name, value}
+
+-- ---- packing eight bytes, the last first
+
+-- a byte in front of what is packed already
+pub value-next : (s : List ℕ) (i : ℕ) → i < length s → value (drop i s) ≡ value (drop (suc i) s) * 256 + get_or s i 0
+unfolding value
+value-next s i h = rw (drop-cons s i 0 h) (omega arith)
+
+pub value_end : (s : List ℕ) (i : ℕ) → length s ≤ i → value (drop i s) ≡ 0
+unfolding value
+value_end s i h = rw (drop_of_length-le s h)
+
+-- with i of eight bytes to go the number is below 256 ^ (8 - i), and fits a word
+pub word_bound : (n i byte : ℕ) → 0 < i → i ≤ 8 → n < 256 ^ (8 - i) → byte < 256 → n * 256 + byte < 256 ^ (8 - (i - 1))
+word_bound n i byte some most below small =
+    let one : 8 - (i - 1) ≡ suc (8 - i) = omega arith in
+    rw (one, pow-suc 256 (8 - i)) (omega arith)
+
+pub word_fits : (i : ℕ) → 256 ^ (8 - i) ≤ 2 ^ 64
+word_fits i =
+    let few : 8 - i ≤ 8 = omega arith in
+    pow-le-pow_right (lit≤ tt) few
+
+pub word_next : (s : List ℕ) (n i : ℕ) → 0 < i → i ≤ length s → n ≡ value (drop i s) → n * 256 + get_or s (i - 1) 0 ≡ value (drop (i - 1) s)
+word_next s n i some most same =
+    let on : suc (i - 1) ≡ i = omega arith in
+    let here : i - 1 < length s = omega arith in
+    sym (value-next s (i - 1) here ∙ ap (λ (k : ℕ). value (drop k s) * 256 + get_or s (i - 1) 0) on ∙ ap (λ (v : ℕ). v * 256 + get_or s (i - 1) 0) (sym same))
 
 -- ---- packing eight bytes at once
 

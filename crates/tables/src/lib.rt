@@ -18,9 +18,11 @@ fn word(part: &[u8]) -> u64
     requires { length part.now ≤ 8 }
     ensures { result ≡ value part.now }
 {
-    let mut eight = [0u8; 8];
-    eight[..part.len()].copy_from_slice(part);
-    u64::from_le_bytes(eight)
+    let mut n: u64 = 0;
+    for i in (0..part.len()).rev() {
+        n = n * 256 + part[i] as u64;
+    }
+    n
 }
 
 // The eight bytes from a place on as one number.

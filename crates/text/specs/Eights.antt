@@ -53,6 +53,21 @@ index_passed mark (suc n) (byte ∷ s) h other =
     let below = index_passed mark n s (omega arith) parts.1 in
     rw (not-true (eqb byte mark) parts.0) (omega arith)
 
+-- and only such bytes are
+index_past : (mark n : ℕ) (s : List ℕ) → n ≤ length s → n ≤ index_of mark s → every (unlike mark) (take n s) ≡ true
+unfolding every unlike index_of index_after
+index_past mark zero s h past = refl
+index_past mark (suc n) [] h past = absurd (omega arith)
+index_past mark (suc n) (byte ∷ s) h past = go (eqb byte mark) refl past (λ far. index_past mark n s (omega arith) far)
+  where
+    go : (b : Bool) → eqb byte mark ≡ b → suc n ≤ index_after b (index_of mark s) → (n ≤ index_of mark s → every (unlike mark) (take n s) ≡ true)
+        → (not (eqb byte mark) && every (unlike mark) (take n s)) ≡ true
+    go true is far more = absurd (omega arith)
+    go false is far more = rw is (more (omega arith))
+
+pub clear_past : (mark : ℕ) (s : List ℕ) (at : ℕ) → at + 8 ≤ length s → 8 ≤ index_of mark (drop at s) → eight_clear mark (drop at s) ≡ true
+clear_past mark s at here past = clear_here mark s at (omega arith) ∙ index_past mark 8 (drop at s) (omega (arith, length-drop at s)) past
+
 -- what is sought from eight bytes further on is sought from here
 pub record Passing (mark : ℕ) (s : List ℕ) (at : ℕ) : Type 0 where
   pub fits : at + 8 ≤ length s

@@ -59,6 +59,8 @@ fn join_line(word: &[u8], name: &[u8], label: &[u8], users: Names) -> Result<Tra
 }
 
 // The places of a step's actor, rule and user, among so many rules of its kind.
+// For speed: in its caller, since a result that is handed back goes through memory.
+#[inline(always)]
 #[tactic(auto, using(text::specs::FormLaws::number_some, text::specs::FormLaws::number_none), unfolding(crate::specs::TraceLines::comes_to, crate::specs::TraceLines::is_step, crate::specs::TraceLines::step_named, fields::specs::Fields::name_read, fields::specs::Fields::field_read, fields::specs::Fields::both_read, fields::specs::Fields::worse))]
 fn read_use(
     actor: &[u8],

@@ -2,7 +2,7 @@
 use Rattle.std.specs.Prelude.{ℕ, ◌+◌, ◌-◌, ◌≤◌, Bool, true, false, cond, ◌&&◌, List, ◌≡◌, refl, leb, ltb, eqb, length, Result, Ok, Err, Option, Some, None}
 use Rattle.std.specs.Option.{option_eq}
 use Rattle.std.proofs.Math.Bool.{and-eq-true_iff}
-use Rattle.std.proofs.Common.{true≢false, sym, ap, ap₂, ◌∙◌, leb-true, ltb-false, arith}
+use Rattle.std.proofs.Common.{true≢false, sym, ap, ap₂, subst, ◌∙◌, leb-true, ltb-false, arith}
 use Rattle.std.proofs.lemmas.Bool.Decides.{nat_tests}
 use borrow.Author.Tests.{ne_eqb}
 use Rattle.roles.specs.declared.RoleSet.{RoleSet}
@@ -11,7 +11,10 @@ use Rattle.tables.specs.Names.{packed, place_of, found_in}
 use Rattle.text.specs.Forms.{bytes, is_name, is_set, is_label}
 use Rattle.text.specs.Pieces.{split, same_bytes}
 use Rattle.walking.specs.declared.Fault.{Fault}
-use Rattle.walking.specs.Faults.{passing}
+use Rattle.walking.specs.Faults.{passing, evidence_fault}
+use Rattle.walking.specs.Turns.{in_turn}
+use Rattle.walking.specs.TurnLaws.{turn_cases}
+use Rattle.walking.specs.Evidence.{tests}
 use Rattle.fields.specs.Fields.{placed, all_declared, roles_of, field_read, set_read, both_read}
 use Rattle.fields.specs.FieldLaws.{both_fields}
 use Rattle.typings.specs.declared.TypingEntry.{TypingEntry}
@@ -19,11 +22,22 @@ use Rattle.typings.specs.TypingLines.{end, entry, header, judged, line_of, named
 
 -- ---- the tests of a line, one after the other
 
+-- What a line comes to is their answer, each with its number.
+tested_in_turn : (formed known : Bool) (says : TypingEntry) → tested formed known says ≡ in_turn (λ number. Err (evidence_fault number)) (tests formed known) (Ok says)
+unfolding in_turn
+tested_in_turn true true says = refl
+tested_in_turn true false says = refl
+tested_in_turn false known says = refl
+
+pub typing_in_turn : (stage : ℕ) (names : List Name) (line : List ℕ)
+    → let l = line_of (split 9 line) in typing_line stage names line ≡ in_turn (λ number. Err (evidence_fault number)) (tests (well_formed stage (length names) l) (named stage names l)) (Ok (entry names l))
+unfolding typing_line judged
+typing_in_turn stage names line = tested_in_turn _ _ _
+
 -- What holds of a line with a fault and of a good one holds of what the line comes to.
 pub tested_cases : (P : Result TypingEntry Fault → Type 0) (formed known : Bool) (says : TypingEntry) → ((fault : Fault) → P (Err fault)) → (formed ≡ true → known ≡ true → P (Ok says)) → P (tested formed known says)
-tested_cases P true true says fails passes = passes refl refl
-tested_cases P true false says fails passes = fails Fault.Undeclared
-tested_cases P false known says fails passes = fails Fault.Malformed
+tested_cases P formed known says fails passes =
+    subst P (sym (tested_in_turn formed known says)) (turn_cases P (λ number. Err (evidence_fault number)) (tests formed known) (Ok says) (λ number f. fails (evidence_fault number)) (λ p. passes p.0 p.1.0))
 
 -- A test that fails decides, and one that passes leaves the rest.
 pub test_fails : {A : Type 0} {found : Fault} (fault : Fault) (passes : Bool) (rest : Result A Fault) → Err found ≡ passing passes fault → Err found ≡ cond passes rest (Err fault)

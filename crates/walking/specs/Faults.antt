@@ -1,5 +1,5 @@
 -- What is wrong with a line, and the numbers of the refusals for it (document 01, "Verdicts and refusal numbers"; document 02, CR 2).
-use Rattle.std.specs.Prelude.{ℕ, Bool, cond, Result, Ok, Err}
+use Rattle.std.specs.Prelude.{ℕ, Bool, cond, eqb, Result, Ok, Err}
 use Rattle.walking.specs.declared.Fault.{Fault}
 use Rattle.walking.specs.declared.Refusal.{Refusal}
 
@@ -14,6 +14,13 @@ abbrev pub evidence_number : Fault → ℕ
 evidence_number Fault.Malformed = 15
 evidence_number Fault.AboveLimit = 21
 evidence_number Fault.Undeclared = 16
+
+-- the fault that a number tells of a policy, and of evidence
+abbrev pub policy_fault : (number : ℕ) → Fault
+policy_fault number = cond (eqb number 11) Fault.Malformed (cond (eqb number 12) Fault.AboveLimit Fault.Undeclared)
+
+abbrev pub evidence_fault : (number : ℕ) → Fault
+evidence_fault number = cond (eqb number 15) Fault.Malformed (cond (eqb number 21) Fault.AboveLimit Fault.Undeclared)
 
 abbrev pub policy_refusal : Fault → (line : ℕ) → Refusal
 policy_refusal fault line = record { number = policy_number fault; line = line }

@@ -1,7 +1,6 @@
 -- `seek` passes over eight bytes at a time, as long as none of them is the mark ; what is left is looked at one by one.
 use Rattle.std.proofs.Common.{rules, sym, ◌∙◌, arith}
 use Rattle.text.specs.Eights.{clear_passing}
-use Rattle.text.specs.Seeking.{sought_there, sought_end}
 use Rattle.text.proofs.seek.Goals as goal
 
 pub loop-at-init : goal.loop-at-init
@@ -16,8 +15,5 @@ loop-at-smaller c = omega (arith, (clear_passing c.args.mark c.args.s.now c.loop
 pub loop-at-preserved : goal.loop-at-preserved
 loop-at-preserved c = let passing = clear_passing c.args.mark c.args.s.now c.loop-at.at (sym c.clear.ensures ∙ c.loop-at-test.true) in (passing.fits, λ place sought. c.loop-at.invariant.1 place (passing.back place sought))
 
-pub returns-in-Some : goal.returns-in-Some
-returns-in-Some c = c.loop-at.invariant.1 _ (sought_there c.args.s.now c.loop-at.at c.args.mark c.loop-at.invariant.0 c.in-Some.ensures)
-
-pub returns-in-None : goal.returns-in-None
-returns-in-None c = c.loop-at.invariant.1 _ (sought_end c.args.s.now c.loop-at.at c.args.mark c.loop-at.invariant.0 c.in-None.ensures)
+pub returns : goal.returns
+returns c = c.loop-at.invariant.1 _ c.find.ensures
