@@ -45,14 +45,14 @@ module _ (table : List ℕ) (count : ℕ) (set : RoleSet) where
       none_between k past below = clear k past (omega (arith, taken.lowest, below))
 
       -- The next role is a member,
-      is_member : has_role set role ≡ true
+      pub is_member : has_role set role ≡ true
       is_member = sym (p.same role reached) ∙ held
 
       -- and nothing is added up to it.
       pub up_to : set_below table set from ≡ set_below table set role
       up_to = set_same table set from role reached none_between
 
-      told_here : some ≡ some_below table set role
+      pub told_here : some ≡ some_below table set role
       told_here = p.told ∙ some_same table set from role reached none_between
 
       -- So its text is what the role adds,
